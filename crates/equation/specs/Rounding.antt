@@ -1,0 +1,7 @@
+-- The rounded-up quotient.
+-- Assumes nothing.
+use Prim.Native.Nat.{ℕ, _+_, _-_, _/_}
+
+-- n / d rounded up
+abbrev pub ceilDiv : ℕ → ℕ → ℕ
+ceilDiv n d = (n + (d - 1)) / d

@@ -1,0 +1,3 @@
+pub mod Tests
+pub mod Lists
+pub mod Search

@@ -1,0 +1,54 @@
+-- A test and what it says, in one case split.
+-- Assumes nothing.
+use Prim.Native.Nat.{ℕ, _≤_, _<_}
+use mathlib.Core.Path.{_≡_, refl}
+use mathlib.Core.Bool.{Bool, true, false}
+use mathlib.Core.Logic.{_⊎_, inl, inr}
+use native.Mathlib.Omega.{arith}
+use lib.Dec.{ltb, leb, eqb}
+use borrow.Author.Tests.{ltb-true, ltb-false, leb-true, leb-false, eqb-true, eqb-false}
+use Rattle.model.specs.Choice.{both, either}
+
+pub bool? : (b : Bool) → (b ≡ true) ⊎ (b ≡ false)
+bool? true = inl refl
+bool? false = inr refl
+
+pub ltb? : (m n : ℕ) → ((ltb m n ≡ true) × (m < n)) ⊎ ((ltb m n ≡ false) × (n ≤ m))
+ltb? m n =
+    elim (bool? (ltb m n)) [
+      | inl p ↦ inl (p, ltb-true m n p)
+      | inr p ↦ inr (p, ltb-false m n p)
+    ]
+
+pub leb? : (m n : ℕ) → ((leb m n ≡ true) × (m ≤ n)) ⊎ ((leb m n ≡ false) × (n < m))
+leb? m n =
+    elim (bool? (leb m n)) [
+      | inl p ↦ inl (p, leb-true m n p)
+      | inr p ↦ inr (p, leb-false m n p)
+    ]
+
+pub eqb? : (m n : ℕ) → ((eqb m n ≡ true) × (m ≡ n)) ⊎ ((eqb m n ≡ false) × (m ≡ n → ⊥))
+eqb? m n =
+    elim (bool? (eqb m n)) [
+      | inl p ↦ inl (p, eqb-true m n p)
+      | inr p ↦ inr (p, eqb-false m n p)
+    ]
+
+-- a test that both passes and fails
+pub clash : (b : Bool) → b ≡ true → b ≡ false → ⊥
+clash b p q = let z : _≡_ {A = ℕ} 0 1 = cc in omega arith
+
+-- either of two tests
+pub either-left : (a b : Bool) → a ≡ true → either a b ≡ true
+either-left a b p = rw p
+
+pub either-right : (a b : Bool) → b ≡ true → either a b ≡ true
+either-right true b p = refl
+either-right false b p = p
+
+pub either-neither : (a b : Bool) → a ≡ false → b ≡ false → either a b ≡ false
+either-neither a b p q = rw p q
+
+pub not-either : (a b : Bool) → either a b ≡ false → (a ≡ false) × (b ≡ false)
+not-either true b p = absurd (clash true refl p)
+not-either false b p = (refl, p)

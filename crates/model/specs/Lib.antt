@@ -1,0 +1,4 @@
+pub mod Choice
+pub mod Lists
+pub mod Search
+pub mod Tables

@@ -1,0 +1,27 @@
+-- Lists made from a function of the place, and sums.
+-- Assumes nothing.
+use Prim.Native.Nat.{ℕ, zero, suc, _+_}
+use mathlib.Core.Bool.{Bool}
+use mathlib.Core.List.{List, [], _∷_, _++_}
+use lib.ListN.{drop}
+use Rattle.model.specs.Choice.{pick}
+
+module _ {A : Type 0} where
+  -- f 0, f 1, .. f (n − 1)
+  unfoldable pub tabulate : (ℕ → A) → ℕ → List A
+  tabulate f zero = []
+  tabulate f (suc n) = tabulate f n ++ (f n ∷ [])
+
+  -- what a list is once its first n words are f 0 to f (n − 1) and the later ones have stayed
+  abbrev pub filled : (ℕ → A) → ℕ → List A → List A
+  filled f n old = tabulate f n ++ drop n old
+
+  -- the elements that pass a test, in their order
+  unfoldable pub keep : (A → Bool) → List A → List A
+  keep test [] = []
+  keep test (x ∷ xs) = pick (test x) (x ∷ keep test xs) (keep test xs)
+
+  -- the sum of f over a list
+  unfoldable pub sumOf : (A → ℕ) → List A → ℕ
+  sumOf f [] = 0
+  sumOf f (x ∷ xs) = f x + sumOf f xs
