@@ -1,3 +1,6 @@
 pub mod Tests
 pub mod Lists
 pub mod Search
+pub mod First
+pub mod Filling
+pub mod Tasks

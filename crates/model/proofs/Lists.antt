@@ -1,6 +1,6 @@
 -- Laws of lists made from a function of the place, and of sums.
 -- Assumes nothing.
-use Prim.Native.Nat.{ℕ, zero, suc, _+_, _≤_, _<_}
+use Prim.Native.Nat.{ℕ, zero, suc, _+_, _≤_, _<_, max}
 use native.Mathlib.Omega.{arith}
 use native.Mathlib.Decide.{ℕ-discrete}
 use native.Mathlib.Nat.{add-suc, suc-add, add-zero, zero-add, add-assoc}
@@ -9,7 +9,7 @@ use mathlib.Core.Path.{_≡_, refl, sym, _∙_, ap, subst}
 use mathlib.Core.List.{List, [], _∷_, _++_, append-assoc}
 use lib.ListN.{length, getD, set, drop, length-append, length-drop, List·getD-append}
 use lib.Seq.{getD-append-seam, drop-cons, set-at, append-snoc, getD-append-add}
-use Rattle.model.specs.Lists.{tabulate, filled, sumOf}
+use Rattle.model.specs.Lists.{tabulate, filled, sumOf, largestOf}
 
 module _ {A : Type 0} (f : ℕ → A) where
   -- one more element
@@ -78,3 +78,8 @@ module _ {A : Type 0} where
   unfolding sumOf
   sum-mono f g [] h = omega arith
   sum-mono f g (x ∷ xs) h = omega (arith, h x, sum-mono f g xs h)
+
+  pub largest-append : (f : A → ℕ) (xs ys : List A) → largestOf f (xs ++ ys) ≡ max (largestOf f xs) (largestOf f ys)
+  unfolding largestOf
+  largest-append f [] ys = omega arith
+  largest-append f (x ∷ xs) ys = omega (arith, largest-append f xs ys)

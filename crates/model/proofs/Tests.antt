@@ -1,12 +1,12 @@
 -- A test and what it says, in one case split.
 -- Assumes nothing.
 use Prim.Native.Nat.{ℕ, _≤_, _<_}
-use mathlib.Core.Path.{_≡_, refl}
-use mathlib.Core.Bool.{Bool, true, false}
+use mathlib.Core.Path.{_≡_, refl, sym, _∙_}
+use mathlib.Core.Bool.{Bool, true, false, not}
 use mathlib.Core.Logic.{_⊎_, inl, inr}
 use native.Mathlib.Omega.{arith}
 use lib.Dec.{ltb, leb, eqb}
-use borrow.Author.Tests.{ltb-true, ltb-false, leb-true, leb-false, eqb-true, eqb-false}
+use borrow.Author.Tests.{ltb-true, ltb-false, leb-true, leb-false, eqb-true, eqb-false, not-true, not-false}
 use Rattle.model.specs.Choice.{both, either}
 
 pub bool? : (b : Bool) → (b ≡ true) ⊎ (b ≡ false)
@@ -52,3 +52,10 @@ either-neither a b p q = rw p q
 pub not-either : (a b : Bool) → either a b ≡ false → (a ≡ false) × (b ≡ false)
 not-either true b p = absurd (clash true refl p)
 not-either false b p = (refl, p)
+
+-- what a function answered, where the code tests its opposite
+pub refuted : {r b : Bool} → r ≡ b → not r ≡ true → b ≡ false
+refuted {r} e p = sym e ∙ not-true r p
+
+pub confirmed : {r b : Bool} → r ≡ b → not r ≡ false → b ≡ true
+confirmed {r} e p = sym e ∙ not-false r p

@@ -17,3 +17,7 @@ both false b = false
 abbrev pub either : Bool → Bool → Bool
 either true b = true
 either false b = b
+
+-- n where the test passes, 0 where it fails
+abbrev pub on : Bool → ℕ → ℕ
+on b n = pick b n 0

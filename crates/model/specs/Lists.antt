@@ -1,6 +1,6 @@
 -- Lists made from a function of the place, and sums.
 -- Assumes nothing.
-use Prim.Native.Nat.{ℕ, zero, suc, _+_}
+use Prim.Native.Nat.{ℕ, zero, suc, _+_, max}
 use mathlib.Core.Bool.{Bool}
 use mathlib.Core.List.{List, [], _∷_, _++_}
 use lib.ListN.{drop}
@@ -25,3 +25,8 @@ module _ {A : Type 0} where
   unfoldable pub sumOf : (A → ℕ) → List A → ℕ
   sumOf f [] = 0
   sumOf f (x ∷ xs) = f x + sumOf f xs
+
+  -- the largest f over a list, and 0 where it is empty
+  unfoldable pub largestOf : (A → ℕ) → List A → ℕ
+  largestOf f [] = 0
+  largestOf f (x ∷ xs) = max (f x) (largestOf f xs)

@@ -1,0 +1,14 @@
+pub mod Sums
+pub mod Windows
+pub mod Counting
+pub mod Served
+pub mod Engine
+pub mod Loads
+pub mod Upper
+pub mod Lists
+pub mod Together
+pub mod Lower
+pub mod Compute
+pub mod Unique
+pub mod Demand3
+pub mod Examples

@@ -1,0 +1,27 @@
+-- Elements of lists that are put together.
+-- Assumes nothing.
+use Prim.Native.Nat.{ℕ, zero, suc, _+_, _<_}
+use native.Mathlib.Nat.{zero-add, le-of-suc-le-suc}
+use native.Mathlib.Omega.{arith}
+use mathlib.Core.Path.{_≡_, refl, sym}
+use mathlib.Core.Logic.{_⊎_, inl, inr}
+use mathlib.Core.List.{List, [], _∷_, _++_}
+use lib.ListN.{length, getD}
+
+module _ {A : Type 0} where
+  -- an element of two lists put together is of the first or of the second
+  pub append-at : (d : A) (xs ys : List A) (j : ℕ) → j < length (xs ++ ys) →
+      ((j < length xs) × (getD (xs ++ ys) j d ≡ getD xs j d))
+      ⊎ ((k : ℕ) × (k < length ys) × (j ≡ length xs + k) × (getD (xs ++ ys) j d ≡ getD ys k d))
+  append-at d [] ys j h = inr (j, h, sym (zero-add j), refl)
+  append-at d (x ∷ xs) ys zero h = inl (omega arith, refl)
+  append-at d (x ∷ xs) ys (suc j) h =
+      elim (append-at d xs ys j (le-of-suc-le-suc h)) [
+        | inl p ↦ inl (omega (arith, p .0), p .1)
+        | inr p ↦ inr (p .0, p .1, omega (arith, p .2), p .3)
+      ]
+
+  pub each-append : (d : A) (holds : A → Type 0) (xs ys : List A) → ((j : ℕ) → j < length xs → holds (getD xs j d)) →
+      ((j : ℕ) → j < length ys → holds (getD ys j d)) → (j : ℕ) → j < length (xs ++ ys) → holds (getD (xs ++ ys) j d)
+  each-append d holds xs ys left right j h =
+      elim (append-at d xs ys j h) [ inl p ↦ rw (p .1) (left j (p .0)) | inr p ↦ rw (p .3) (right (p .0) (p .1)) ]

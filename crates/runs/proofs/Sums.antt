@@ -1,0 +1,129 @@
+-- Sums over the first numbers, and their link to sums over lists.
+-- Assumes nothing.
+use Prim.Native.Nat.{ℕ, zero, suc, _+_, _*_, _≤_, _<_}
+use native.Mathlib.Nat.{add-suc, mul-zero, mul-suc, mul-add, not-suc-le-zero, lt-suc-self, le-refl, le-of-suc-le-suc, add-zero}
+use native.Mathlib.Decide.{ℕ-discrete}
+use native.Mathlib.Omega.{arith}
+use mathlib.Core.Path.{_≡_, refl, sym, ap}
+use mathlib.Core.Logic.{_≢_}
+use mathlib.Core.Bool.{Bool, true, false}
+use mathlib.Core.List.{List, [], _∷_, map}
+use lib.ListN.{length, getD}
+use Rattle.model.specs.Lists.{sumOf, tabulate, keep}
+use Rattle.model.proofs.Lists.{sum-append}
+
+-- f 0 + f 1 + .. + f (n − 1)
+unfoldable pub total : (ℕ → ℕ) → ℕ → ℕ
+total f zero = 0
+total f (suc n) = total f n + f n
+
+pub total-mono : (f g : ℕ → ℕ) (n : ℕ) → ((k : ℕ) → k < n → f k ≤ g k) → total f n ≤ total g n
+unfolding total
+total-mono f g zero h = le-refl 0
+total-mono f g (suc n) h = omega (arith, total-mono f g n (λ k l. h k (omega arith)), h n (lt-suc-self n))
+
+pub total-same : (f g : ℕ → ℕ) (n : ℕ) → ((k : ℕ) → k < n → f k ≡ g k) → total f n ≡ total g n
+unfolding total
+total-same f g zero h = refl
+total-same f g (suc n) h = omega (arith, total-same f g n (λ k l. h k (omega arith)), h n (lt-suc-self n))
+
+pub total-add : (f g : ℕ → ℕ) (n : ℕ) → total (λ k. f k + g k) n ≡ total f n + total g n
+unfolding total
+total-add f g zero = refl
+total-add f g (suc n) = omega (arith, total-add f g n)
+
+pub total-times : (c : ℕ) (f : ℕ → ℕ) (n : ℕ) → total (λ k. c * f k) n ≡ c * total f n
+unfolding total
+total-times c f zero = sym (mul-zero c)
+total-times c f (suc n) = rw mul-add (omega (arith, total-times c f n))
+
+pub total-zero : (f : ℕ → ℕ) (n : ℕ) → ((k : ℕ) → k < n → f k ≡ 0) → total f n ≡ 0
+unfolding total
+total-zero f zero h = refl
+total-zero f (suc n) h = omega (arith, total-zero f n (λ k l. h k (omega arith)), h n (lt-suc-self n))
+
+-- a sum in which one summand alone counts
+pub total-point : (f : ℕ → ℕ) (p n : ℕ) → p < n → ((k : ℕ) → k < n → k ≢ p → f k ≡ 0) → total f n ≡ f p
+unfolding total
+total-point f p zero l h = absurd (not-suc-le-zero l)
+total-point f p (suc n) l h =
+    elim (ℕ-discrete n p) [
+      | yes e ↦ rw (← e) (omega (arith, total-zero f n (λ k m. h k (omega arith) (omega arith))))
+      | no e ↦ omega (arith, total-point f p n (omega arith) (λ k m d. h k (omega arith) d), h n (lt-suc-self n) e)
+    ]
+
+-- a part of a sum is at most the sum
+pub total-grows : (f : ℕ → ℕ) (m k : ℕ) → total f m ≤ total f (m + k)
+unfolding total
+total-grows f m zero = rw add-zero (le-refl (total f m))
+total-grows f m (suc k) = rw add-suc (omega (arith, total-grows f m k))
+
+-- a sum of summands that are each at least c
+pub total-least : (c : ℕ) (f : ℕ → ℕ) (n : ℕ) → ((k : ℕ) → k < n → c ≤ f k) → c * n ≤ total f n
+unfolding total
+total-least c f zero h = rw mul-zero (le-refl 0)
+total-least c f (suc n) h = rw mul-suc (omega (arith, total-least c f n (λ k l. h k (omega arith)), h n (lt-suc-self n)))
+
+-- where no summand of f is above g's and the sums are the same, so are the summands
+pub total-tight : (f g : ℕ → ℕ) (n : ℕ) → ((k : ℕ) → k < n → f k ≤ g k) → total g n ≤ total f n → (k : ℕ) → k < n → g k ≤ f k
+unfolding total
+total-tight f g zero h t k l = absurd (not-suc-le-zero l)
+total-tight f g (suc n) h t k l =
+    let smaller : total f n ≤ total g n = total-mono f g n (λ i m. h i (omega arith)) in
+    let here : f n ≤ g n = h n (lt-suc-self n) in
+    elim (ℕ-discrete k n) [
+      | yes e ↦ rw e (omega arith)
+      | no e ↦ total-tight f g n (λ i m. h i (omega arith)) (omega arith) k (omega arith)
+    ]
+
+-- a test that at most one number passes
+pub total-once : (f : ℕ → ℕ) (n : ℕ) → ((k : ℕ) → k < n → f k ≤ 1) →
+    ((a b : ℕ) → a < n → b < n → 1 ≤ f a → 1 ≤ f b → a ≡ b) → total f n ≤ 1
+unfolding total
+total-once f zero small only = omega arith
+total-once f (suc n) small only =
+    elim (ℕ-discrete (f n) 0) [
+      | yes e ↦ omega (arith, total-once f n (λ k l. small k (omega arith)) (λ a b l m. only a b (omega arith) (omega arith)))
+      | no e ↦
+          let none : total f n ≡ 0 = total-zero f n (λ k l. elim (ℕ-discrete (f k) 0) [
+            | yes z ↦ z
+            | no z ↦ absurd (omega (arith, only k n (omega arith) (lt-suc-self n) (omega arith) (omega arith)))
+          ]) in
+          omega (arith, small n (lt-suc-self n))
+    ]
+
+-- the first summand apart from the others
+pub total-front : (f : ℕ → ℕ) (n : ℕ) → total f (suc n) ≡ f 0 + total (λ k. f (suc k)) n
+unfolding total
+total-front f zero = omega arith
+total-front f (suc n) = omega (arith, total-front f n)
+
+module _ {A : Type 0} where
+  -- a sum over a list is the sum over its numbers
+  pub sum-total : (f : A → ℕ) (d : A) (xs : List A) → sumOf f xs ≡ total (λ k. f (getD xs k d)) (length xs)
+  unfolding sumOf total
+  sum-total f d [] = refl
+  sum-total f d (x ∷ xs) = rw total-front (ap (λ (n : ℕ). f x + n) (sum-total f d xs))
+
+  pub sum-tabulate : (f : A → ℕ) (g : ℕ → A) (n : ℕ) → sumOf f (tabulate g n) ≡ total (λ k. f (g k)) n
+  unfolding sumOf total tabulate
+  sum-tabulate f g zero = refl
+  sum-tabulate f g (suc n) = rw (sum-append, sum-tabulate f g n) (omega arith)
+
+  pub sum-map : {B : Type 0} (f : B → ℕ) (g : A → B) (xs : List A) → sumOf f (map g xs) ≡ sumOf (λ x. f (g x)) xs
+  unfolding sumOf
+  sum-map f g [] = refl
+  sum-map f g (x ∷ xs) = ap (λ (n : ℕ). f (g x) + n) (sum-map f g xs)
+
+  -- what a test keeps, where it passes at the first i elements and at no other
+  pub sum-keep : (f : A → ℕ) (test : A → Bool) (d : A) (xs : List A) (i : ℕ) → i ≤ length xs →
+      ((p : ℕ) → p < i → test (getD xs p d) ≡ true) → ((p : ℕ) → i ≤ p → p < length xs → test (getD xs p d) ≡ false) →
+      sumOf f (keep test xs) ≡ total (λ p. f (getD xs p d)) i
+  unfolding sumOf total keep
+  sum-keep f test d [] zero l passes fails = refl
+  sum-keep f test d [] (suc i) l passes fails = absurd (not-suc-le-zero l)
+  sum-keep f test d (x ∷ xs) zero l passes fails =
+      rw (fails 0 (le-refl 0) (omega arith)) (sum-keep f test d xs zero (omega arith) (λ p m. absurd (not-suc-le-zero m)) (λ p m n. fails (suc p) (omega arith) (omega arith)))
+  sum-keep f test d (x ∷ xs) (suc i) l passes fails =
+      rw (total-front, passes 0 (omega arith)) (ap (λ (n : ℕ). f x + n)
+      (sum-keep f test d xs i (le-of-suc-le-suc l) (λ p m. passes (suc p) (omega arith)) (λ p m n. fails (suc p) (omega arith) (omega arith))))

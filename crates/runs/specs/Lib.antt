@@ -1,0 +1,5 @@
+pub mod Jobs
+pub mod Schedule
+pub mod Statement
+pub mod Scheduler
+pub mod Examples

@@ -1,0 +1,52 @@
+-- `tables::records::read` meets its contract, field by field.
+-- Assumes nothing.
+use mathlib.Core.Path.{refl}
+use Rattle.model.proofs.Tasks.{same-task}
+use borrow.Author.Needs.{needs}
+use Rattle.tables.proofs.records.read.Statement.{statement}
+use Rattle.tables.proofs.records.read.Tie as tie
+
+shared-slice-read-t4 : tie.Need-shared-slice-read-t4
+shared-slice-read-t4 c = search needs
+
+add-word : tie.Need-add-word
+add-word c = search needs
+
+word-requires : tie.Need-word-requires
+word-requires c κs = search needs
+
+add-word-2 : tie.Need-add-word-2
+add-word-2 c = search needs
+
+word-requires-2 : tie.Need-word-requires-2
+word-requires-2 c κs = search needs
+
+add-word-3 : tie.Need-add-word-3
+add-word-3 c = search needs
+
+word-requires-3 : tie.Need-word-requires-3
+word-requires-3 c κs = search needs
+
+add-word-4 : tie.Need-add-word-4
+add-word-4 c = search needs
+
+word-requires-4 : tie.Need-word-requires-4
+word-requires-4 c κs = search needs
+
+returns : tie.Need-returns
+returns c = same-task _ _ refl (c .before .before .before .word .ensures) (c .before .before .word2 .ensures) (c .before .word3 .ensures) (c .word4 .ensures)
+
+pub read-spec : {M : Type 1} → statement M
+read-spec =
+    tie.close
+    (tie.spec
+    shared-slice-read-t4
+    add-word
+    word-requires
+    add-word-2
+    word-requires-2
+    add-word-3
+    word-requires-3
+    add-word-4
+    word-requires-4
+    returns)

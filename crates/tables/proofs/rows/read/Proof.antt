@@ -1,0 +1,42 @@
+-- `tables::rows::read` meets its contract, field by field.
+-- Assumes nothing.
+use native.Mathlib.Omega.{arith}
+use Prim.Native.Nat.{_+_}
+use mathlib.Core.Path.{refl}
+use Rattle.model.proofs.Tasks.{same-row}
+use borrow.Author.Needs.{needs}
+use Rattle.tables.proofs.rows.read.Statement.{statement}
+use Rattle.tables.proofs.rows.read.Tie as tie
+
+shared-slice-read-count : tie.Need-shared-slice-read-count
+shared-slice-read-count c = search needs
+
+count-requires : tie.Need-count-requires
+count-requires c κs = search needs
+
+add-t7 : tie.Need-add-t7
+add-t7 c = search needs
+
+shared-slice-read-t9 : tie.Need-shared-slice-read-t9
+shared-slice-read-t9 c = search needs
+
+add-word : tie.Need-add-word
+add-word c = search needs
+
+word-requires : tie.Need-word-requires
+word-requires c κs = search needs
+
+returns : tie.Need-returns
+returns c = (same-row _ _ (c .before .before .count .ensures .0) refl (c .word .ensures), (c .before .before .count .ensures .1, omega (arith, c .before .before .before .before .shared-slice-known .given (c .before .before .before .before .before .args .at + 1))))
+
+pub read-spec : {M : Type 1} → statement M
+read-spec =
+    tie.close
+    (tie.spec
+    shared-slice-read-count
+    count-requires
+    add-t7
+    shared-slice-read-t9
+    add-word
+    word-requires
+    returns)

@@ -1,0 +1,59 @@
+-- The refusals, as a list of checks in document 01's order ("Refusals").
+-- Assumes nothing.
+use Prim.Native.Nat.{ℕ}
+use mathlib.Core.List.{List, [], _∷_}
+use lib.Dec.{eqb, leb}
+use lib.ListN.{length}
+use Rattle.model.specs.Choice.{both}
+use Rattle.model.specs.Search.{firstOf, cleanCount}
+use Rattle.tables.specs.declared.Refusal.{Refusal}
+use Rattle.tables.specs.declared.Refusal.the-variants.{TooShort, UnknownVersion, CountOutOfRange, LengthsDiffer, NumberOutOfRange, PriorityOutOfOrder, SectionRow, NoRoom}
+use Rattle.tables.specs.declared.Check.{Check}
+use Rattle.tables.specs.declared.Check.the-variants.{Clean}
+use Rattle.tables.specs.Layout.{headSize, versionOf, taskCount, rowCount, taskAt}
+use Rattle.tables.specs.Refusals.{at, isClean, unless, orElse, firstIn}
+use Rattle.tables.specs.Rules.{countsFit, lengthsAgree, numbersFit, priorityFits, rowFits}
+
+-- "Task records are taken in order, each tested for 5 and then 6"
+unfoldable pub recordCheck : List ℕ → ℕ → Check
+recordCheck bytes i =
+    orElse (unless (numbersFit (taskAt bytes i)) (NumberOutOfRange (at i))) (unless (priorityFits bytes i) (PriorityOutOfOrder (at i)))
+
+unfoldable pub rowCheck : List ℕ → ℕ → Check
+rowCheck bytes k = unless (rowFits bytes k) (SectionRow (at k))
+
+-- refusals 1 to 4
+abbrev pub headChecks : List ℕ → List Check
+headChecks bytes =
+    unless (leb headSize (length bytes)) TooShort
+    ∷ unless (eqb (versionOf bytes) 1) UnknownVersion
+    ∷ unless (countsFit (taskCount bytes) (rowCount bytes)) CountOutOfRange
+    ∷ unless (lengthsAgree bytes) LengthsDiffer
+    ∷ []
+
+unfoldable pub headCheck : List ℕ → Check
+headCheck bytes = firstIn (headChecks bytes)
+
+-- refusals 5 and 6, of the records in order
+unfoldable pub recordsCheck : List ℕ → Check
+recordsCheck bytes = firstOf isClean Clean (recordCheck bytes) (taskCount bytes)
+
+-- refusal 7, of the rows in order
+unfoldable pub rowsCheck : List ℕ → Check
+rowsCheck bytes = firstOf isClean Clean (rowCheck bytes) (rowCount bytes)
+
+-- "an answer slice has fewer than n words"
+unfoldable pub roomCheck : List ℕ → ℕ → ℕ → Check
+roomCheck bytes answers rounds = unless (both (leb (taskCount bytes) answers) (leb (taskCount bytes) rounds)) NoRoom
+
+-- The whole of it, over the bytes and the lengths of the two answer slices: "then the rows in order for 7".
+unfoldable pub tableCheck : List ℕ → ℕ → ℕ → Check
+tableCheck bytes answers rounds =
+    firstIn (headCheck bytes ∷ recordsCheck bytes ∷ rowsCheck bytes ∷ roomCheck bytes answers rounds ∷ [])
+
+-- how many records, and how many rows, are read before a fault or the end
+abbrev pub recordsRead : List ℕ → ℕ
+recordsRead bytes = cleanCount isClean Clean (recordCheck bytes) (taskCount bytes)
+
+abbrev pub rowsRead : List ℕ → ℕ
+rowsRead bytes = cleanCount isClean Clean (rowCheck bytes) (rowCount bytes)

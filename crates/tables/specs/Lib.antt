@@ -1,0 +1,5 @@
+pub mod Layout
+pub mod Refusals
+pub mod Rules
+pub mod Checks
+pub mod Reading

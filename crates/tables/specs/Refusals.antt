@@ -1,0 +1,52 @@
+-- This paper's number and place for each refusal (document 01, "Refusals").
+-- Assumes nothing.
+use Prim.Native.Nat.{ℕ}
+use mathlib.Core.Bool.{Bool, true, false}
+use mathlib.Core.List.{List, [], _∷_}
+use Rattle.model.specs.declared.Place.{Place}
+use Rattle.tables.specs.declared.Refusal.{Refusal}
+use Rattle.tables.specs.declared.Refusal.the-variants.{TooShort, UnknownVersion, CountOutOfRange, LengthsDiffer, NumberOutOfRange, PriorityOutOfOrder, SectionRow, NoRoom}
+use Rattle.tables.specs.declared.Check.{Check}
+use Rattle.tables.specs.declared.Check.the-variants.{Clean, Refused}
+
+abbrev pub numberOf : Refusal → ℕ
+numberOf TooShort = 1
+numberOf UnknownVersion = 2
+numberOf CountOutOfRange = 3
+numberOf LengthsDiffer = 4
+numberOf (NumberOutOfRange place) = 5
+numberOf (PriorityOutOfOrder place) = 6
+numberOf (SectionRow place) = 7
+numberOf NoRoom = 8
+
+abbrev pub placeOf : Refusal → ℕ
+placeOf TooShort = 0
+placeOf UnknownVersion = 0
+placeOf CountOutOfRange = 0
+placeOf LengthsDiffer = 0
+placeOf (NumberOutOfRange place) = place .0
+placeOf (PriorityOutOfOrder place) = place .0
+placeOf (SectionRow place) = place .0
+placeOf NoRoom = 0
+
+abbrev pub at : ℕ → Place
+at i = record { 0 = i }
+
+abbrev pub isClean : Check → Bool
+isClean Clean = true
+isClean (Refused r) = false
+
+-- clean where the test passes, and else that refusal
+abbrev pub unless : Bool → Refusal → Check
+unless true r = Clean
+unless false r = Refused r
+
+-- the first check, and the second where the first is clean
+abbrev pub orElse : Check → Check → Check
+orElse Clean second = second
+orElse (Refused r) second = Refused r
+
+-- "the first that applies is given"
+unfoldable pub firstIn : List Check → Check
+firstIn [] = Clean
+firstIn (check ∷ checks) = orElse check (firstIn checks)

@@ -1,0 +1,59 @@
+// House form, version 1: where each field stands, the refusals in their order, and the table that accepted bytes mean.
+ghost use mathlib.Core.Path.{_≡_};
+ghost use Rattle.tables.specs.Refusals.{numberOf, placeOf};
+use model::Place;
+
+pub mod fields;
+pub mod head;
+pub mod records;
+pub mod rows;
+
+// Why a table is refused, in the order of document 01's table.
+pub enum Refusal {
+    TooShort,
+    UnknownVersion,
+    CountOutOfRange,
+    LengthsDiffer,
+    NumberOutOfRange(Place),
+    PriorityOutOfOrder(Place),
+    SectionRow(Place),
+    NoRoom,
+}
+
+// What a check finds.
+pub enum Check {
+    Clean,
+    Refused(Refusal),
+}
+
+// The refusal's number in document 01.
+pub fn number(refusal: Refusal) -> u32
+    ensures { λ r. ⌜ r ≡ numberOf refusal ⌝ }
+{
+    match refusal {
+        Refusal::TooShort => 1,
+        Refusal::UnknownVersion => 2,
+        Refusal::CountOutOfRange => 3,
+        Refusal::LengthsDiffer => 4,
+        Refusal::NumberOutOfRange(_) => 5,
+        Refusal::PriorityOutOfOrder(_) => 6,
+        Refusal::SectionRow(_) => 7,
+        Refusal::NoRoom => 8,
+    }
+}
+
+// The place of the fault in document 01.
+pub fn place(refusal: Refusal) -> usize
+    ensures { λ r. ⌜ r ≡ placeOf refusal ⌝ }
+{
+    match refusal {
+        Refusal::TooShort => 0,
+        Refusal::UnknownVersion => 0,
+        Refusal::CountOutOfRange => 0,
+        Refusal::LengthsDiffer => 0,
+        Refusal::NumberOutOfRange(at) => at.0,
+        Refusal::PriorityOutOfOrder(at) => at.0,
+        Refusal::SectionRow(at) => at.0,
+        Refusal::NoRoom => 0,
+    }
+}

@@ -1,0 +1,96 @@
+// The section rows: refusal 7, and the fields of each row, read once.
+ghost use mathlib.Core.Path.{_≡_};
+ghost use Prim.Native.Nat.{_+_, _≤_, _<_};
+ghost use lib.ListN.{length};
+ghost use Rattle.model.specs.Lists.{filled};
+ghost use Rattle.tables.specs.Layout.{rowFrom, placeIn, semaphoreIn, longestIn};
+ghost use Rattle.tables.specs.Checks.{rowsCheck, rowsRead};
+ghost use Rattle.tables.specs.Reading.{rowOf, rowKey, rowRight, RowsFit};
+use crate::Check;
+use crate::Refusal;
+use crate::fields::count;
+use crate::fields::wide;
+use crate::fields::within;
+use crate::fields::word;
+use model::Place;
+use model::Ticks;
+
+// One row's numbers.
+pub struct RowRecord {
+    pub place: Place,
+    pub semaphore: u8,
+    pub longest: Ticks,
+}
+
+// The row that begins at `at`. A place and a semaphore are single bytes.
+pub fn read(table: &[u8], at: usize) -> RowRecord
+    requires { ⌜ at + 6 ≤ length (now table) ⌝ }
+    ensures { λ r. ⌜ rowOf r ≡ rowFrom (now (table .entry)) at ⌝ }
+    ensures { λ r. ⌜ (r .place .0 < 256) × (r .semaphore < 256) ⌝ }
+{
+    RowRecord {
+        place: Place(count(table[at])),
+        semaphore: table[at + 1],
+        longest: Ticks(word(table, at + 2)),
+    }
+}
+
+// A number that rises where rows rise by place, then semaphore.
+pub fn key(row: RowRecord) -> u32
+    requires { ⌜ (row .place .0 < 256) × (row .semaphore < 256) ⌝ }
+    ensures { λ r. ⌜ r ≡ rowKey (rowOf row) ⌝ }
+{
+    (row.place.0 as u32) * 256 + wide(row.semaphore)
+}
+
+// Is the row right? Its place is tested before a cost is looked up by it.
+pub fn fits(row: RowRecord, n: usize, costs: &[u32], before: u32) -> bool
+    requires { ⌜ (row .place .0 < 256) × (row .semaphore < 256) ⌝ }
+    requires { ⌜ n ≤ length (now costs) ⌝ }
+    ensures { λ r. ⌜ r ≡ rowRight n (now (costs .entry)) before (rowOf row) ⌝ }
+{
+    let place = row.place.0;
+    if n <= place {
+        return false;
+    }
+    if !within(1, 16, wide(row.semaphore)) {
+        return false;
+    }
+    if !within(1, costs[place], row.longest.0) {
+        return false;
+    }
+    before < key(row)
+}
+
+// Takes the m rows in order, and keeps the fields of those before the first fault.
+pub fn read_all(
+    table: &[u8],
+    n: usize,
+    m: usize,
+    costs: &[u32],
+    places: &mut [u8],
+    semaphores: &mut [u8],
+    longest: &mut [u32],
+) -> Check
+    requires { ⌜ RowsFit (now table) n m (now costs) (now places) (now semaphores) (now longest) ⌝ }
+    ensures { λ r. ⌜ r ≡ rowsCheck (now (table .entry)) ⌝ }
+    ensures { λ r. ⌜ now (places .exit) ≡ filled (placeIn (now (table .entry))) (rowsRead (now (table .entry))) (now (places .entry)) ⌝ }
+    ensures { λ r. ⌜ now (semaphores .exit) ≡ filled (semaphoreIn (now (table .entry))) (rowsRead (now (table .entry))) (now (semaphores .entry)) ⌝ }
+    ensures { λ r. ⌜ now (longest .exit) ≡ filled (longestIn (now (table .entry))) (rowsRead (now (table .entry))) (now (longest .entry)) ⌝ }
+{
+    // below every key: no row stands before the first
+    let mut before: u32 = 0;
+    let mut at = 5 + 17 * n;
+    for k in 0..m {
+        let row = read(table, at);
+        if !fits(row, n, costs, before) {
+            return Check::Refused(Refusal::SectionRow(Place(k)));
+        }
+        places[k] = row.place.0 as u8;
+        semaphores[k] = row.semaphore;
+        longest[k] = row.longest.0;
+        before = key(row);
+        at += 6;
+    }
+    Check::Clean
+}
