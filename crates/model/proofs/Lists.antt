@@ -9,7 +9,7 @@ use mathlib.Core.Path.{_≡_, refl, sym, _∙_, ap, subst}
 use mathlib.Core.List.{List, [], _∷_, _++_, append-assoc}
 use lib.ListN.{length, getD, set, drop, length-append, length-drop, List·getD-append}
 use lib.Seq.{getD-append-seam, drop-cons, set-at, append-snoc, getD-append-add}
-use Rattle.model.specs.Lists.{tabulate, filled, sumOf, largestOf}
+use Rattle.model.specs.Lists.{tabulate, filled, sumOf, largestOf, largestTo}
 
 module _ {A : Type 0} (f : ℕ → A) where
   -- one more element
@@ -83,3 +83,24 @@ module _ {A : Type 0} where
   unfolding largestOf
   largest-append f [] ys = omega arith
   largest-append f (x ∷ xs) ys = omega (arith, largest-append f xs ys)
+
+  -- the largest over a list made from places is the largest over the places
+  pub largest-tabulate : (f : A → ℕ) (g : ℕ → A) (h : ℕ → ℕ) (n : ℕ) → ((k : ℕ) → k < n → h k ≡ f (g k)) →
+      largestTo h n ≡ largestOf f (tabulate g n)
+  unfolding tabulate largestTo largestOf
+  largest-tabulate f g h zero same = refl
+  largest-tabulate f g h (suc n) same =
+      omega (
+        arith,
+        largest-append f (tabulate g n) (g n ∷ []),
+        largest-tabulate f g h n (λ k l. same k (omega arith)),
+        same n (omega arith),
+      )
+
+pub largest-more : (f : ℕ → ℕ) (n : ℕ) → largestTo f (n + 1) ≡ max (largestTo f n) (f n)
+unfolding largestTo
+largest-more f n = rw add-one
+
+pub largest-none : (f : ℕ → ℕ) → largestTo f 0 ≡ 0
+unfolding largestTo
+largest-none f = refl

@@ -30,3 +30,8 @@ module _ {A : Type 0} where
   unfoldable pub largestOf : (A → ℕ) → List A → ℕ
   largestOf f [] = 0
   largestOf f (x ∷ xs) = max (f x) (largestOf f xs)
+
+-- the largest of f 0 to f (n − 1), and 0 where n is 0
+unfoldable pub largestTo : (ℕ → ℕ) → ℕ → ℕ
+largestTo f zero = 0
+largestTo f (suc n) = max (largestTo f n) (f n)

@@ -1,0 +1,72 @@
+-- `blocking::ceilings` meets its contract: after k turns it has the ceilings of the first k rows.
+-- Assumes nothing.
+use Prim.Native.Nat.{_-_}
+use native.Mathlib.Omega.{arith}
+use Rattle.blocking.proofs.CeilingLaws.{Raised, raised-none, raised-more, raised-all}
+use Rattle.blocking.proofs.ceilings.Statement.{statement}
+use Rattle.blocking.proofs.ceilings.Tie as tie
+
+abbrev Inv-loop : tie.InvT-loop
+Inv-loop priorities places semaphores count found₀ k₀ found k = Raised priorities places semaphores count k found
+
+abbrev μ-loop : tie.MeasureT-loop
+μ-loop priorities places semaphores count found₀ k₀ found k = count - k
+
+loop-holds : tie.Need-loop-holds Inv-loop μ-loop
+loop-holds c = raised-none _ _ _ _
+
+shared-slice-read-semaphore : tie.Need-shared-slice-read-semaphore Inv-loop μ-loop
+shared-slice-read-semaphore c = omega arith
+
+cast-semaphore : tie.Need-cast-semaphore Inv-loop μ-loop
+cast-semaphore c = omega (arith, c .before .before .before .before .before .before .pre .semaphoresLow (c .before .before .loop .k) (c .before .loop-test .taken))
+
+shared-slice-read-place : tie.Need-shared-slice-read-place Inv-loop μ-loop
+shared-slice-read-place c = omega arith
+
+cast-place : tie.Need-cast-place Inv-loop μ-loop
+cast-place c = omega (arith, c .shared-slice-known5 .given (c .before .before .before .loop .k))
+
+array-read-larger-priority : tie.Need-array-read-larger-priority Inv-loop μ-loop
+array-read-larger-priority c = omega (arith, c .before .before .before .before .before .before .before .pre .semaphoresLow (c .before .before .before .loop .k) (c .before .before .loop-test .taken), c .before .before .before .loop .inv .long)
+
+shared-slice-read-larger-priority : tie.Need-shared-slice-read-larger-priority Inv-loop μ-loop
+shared-slice-read-larger-priority c = c .before .before .before .before .before .before .before .before .pre .placesLow (c .before .before .before .before .loop .k) (c .before .before .before .loop-test .taken)
+
+larger-priority-requires : tie.Need-larger-priority-requires Inv-loop μ-loop
+larger-priority-requires c κs = omega arith
+
+array-write-found : tie.Need-array-write-found Inv-loop μ-loop
+array-write-found c = omega (arith, c .before .before .before .before .before .before .before .before .before .pre .semaphoresLow (c .before .before .before .before .before .loop .k) (c .before .before .before .before .loop-test .taken), c .before .before .before .before .before .loop .inv .long)
+
+add-k : tie.Need-add-k Inv-loop μ-loop
+add-k c = omega arith
+
+loop-less : tie.Need-loop-less Inv-loop μ-loop
+loop-less c = omega arith
+
+loop-again : tie.Need-loop-again Inv-loop μ-loop
+loop-again c = raised-more _ _ _ _ _ _ _ (c .before .before .before .before .before .loop .inv) (c .before .before .before .before .loop-test .taken) (c .before .before .before .before .before .before .before .before .before .pre .semaphoresLow (c .before .before .before .before .before .loop .k) (c .before .before .before .before .loop-test .taken)) (c .larger-priority .ensures)
+
+returns : tie.Need-returns Inv-loop μ-loop
+returns c = raised-all _ _ _ _ _ _ (c .before .loop .inv) (c .loop-test .left)
+
+pub ceilings-spec : {M : Type 1} → statement M
+ceilings-spec =
+    tie.close
+    (tie.spec
+    Inv-loop
+    μ-loop
+    loop-holds
+    shared-slice-read-semaphore
+    cast-semaphore
+    shared-slice-read-place
+    cast-place
+    array-read-larger-priority
+    shared-slice-read-larger-priority
+    larger-priority-requires
+    array-write-found
+    add-k
+    loop-less
+    loop-again
+    returns)

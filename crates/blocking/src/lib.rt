@@ -1,0 +1,92 @@
+// Blocking by priority ceiling. The ceilings are found once, in one pass over the rows; then each task looks once at each row.
+ghost use mathlib.Core.Path.{_≡_};
+ghost use Prim.Native.Nat.{ℕ, _≤_, _<_, max};
+ghost use lib.Dec.{leb, ltb};
+ghost use lib.ListN.{length, getD};
+ghost use Rattle.model.specs.Choice.{both, on};
+ghost use Rattle.model.specs.Lists.{filled, largestTo};
+ghost use Rattle.blocking.specs.Slices.{ceilingIn, ownerAt, topAt, sectionAt, RowsHeld};
+use model::Priority;
+use model::Ticks;
+
+fn larger_priority(a: u8, b: u8) -> u8
+    ensures { λ r. ⌜ r ≡ max a b ⌝ }
+{
+    if a < b { b } else { a }
+}
+
+fn larger(a: u32, b: u32) -> u32
+    ensures { λ r. ⌜ r ≡ max a b ⌝ }
+{
+    if a < b { b } else { a }
+}
+
+// What a row adds: its section, where its task is less urgent and its semaphore's ceiling is at least the own priority.
+fn held(owner: u8, top: u8, longest: u32, own: u8) -> u32
+    ensures { λ r. ⌜ r ≡ on (both (ltb owner own) (leb own top)) longest ⌝ }
+{
+    if own <= owner {
+        return 0;
+    }
+    if top < own {
+        return 0;
+    }
+    longest
+}
+
+// The ceiling of each semaphore, 0 where no row names it.
+pub fn ceilings(priorities: &[u8], places: &[u8], semaphores: &[u8], count: usize) -> [u8; 17]
+    requires { ⌜ RowsHeld (now priorities) (now places) (now semaphores) count ⌝ }
+    ensures { λ r. ⌜ ((s : ℕ) → s < 17 → getD r s 0 ≡ ceilingIn (now (priorities .entry)) (now (places .entry)) (now (semaphores .entry)) count s) ⌝ }
+{
+    let mut found = [0u8; 17];
+    for k in 0..count {
+        let semaphore = semaphores[k] as usize;
+        let place = places[k] as usize;
+        found[semaphore] = larger_priority(found[semaphore], priorities[place]);
+    }
+    found
+}
+
+// For each row the priority of its task and the ceiling of its semaphore.
+pub fn spans(
+    priorities: &[u8],
+    places: &[u8],
+    semaphores: &[u8],
+    count: usize,
+    owners: &mut [u8],
+    tops: &mut [u8],
+)
+    requires { ⌜ RowsHeld (now priorities) (now places) (now semaphores) count ⌝ }
+    requires { ⌜ (count ≤ length (now owners)) × (count ≤ length (now tops)) ⌝ }
+    ensures { λ _. ⌜ now (owners .exit) ≡ filled (ownerAt (now (priorities .entry)) (now (places .entry))) count (now (owners .entry)) ⌝ }
+    ensures { λ _. ⌜ now (tops .exit) ≡ filled (topAt (now (priorities .entry)) (now (places .entry)) (now (semaphores .entry)) count) count (now (tops .entry)) ⌝ }
+{
+    let found = ceilings(priorities, places, semaphores, count);
+    for k in 0..count {
+        let place = places[k] as usize;
+        let semaphore = semaphores[k] as usize;
+        owners[k] = priorities[place];
+        tops[k] = found[semaphore];
+    }
+}
+
+// B of a task of that priority: the longest section of a less urgent task whose semaphore's ceiling is at least the priority.
+pub fn blocking(
+    owners: &[u8],
+    tops: &[u8],
+    longest: &[u32],
+    count: usize,
+    priority: Priority,
+) -> Ticks
+    requires { ⌜ (count ≤ length (now owners)) × (count ≤ length (now tops)) ⌝ }
+    requires { ⌜ count ≤ length (now longest) ⌝ }
+    ensures { λ r. ⌜ r .0 ≡ largestTo (sectionAt (now (owners .entry)) (now (tops .entry)) (now (longest .entry)) (priority .0)) count ⌝ }
+{
+    let own = priority.0;
+    let mut most: u32 = 0;
+    for k in 0..count {
+        most = larger(most, held(owners[k], tops[k], longest[k], own));
+    }
+    Ticks(most)
+}
