@@ -59,3 +59,19 @@ refuted {r} e p = sym e ∙ not-true r p
 
 pub confirmed : {r b : Bool} → r ≡ b → not r ≡ false → b ≡ true
 confirmed {r} e p = sym e ∙ not-false r p
+
+-- both of two tests
+pub both-true : (a b : Bool) → both a b ≡ true → (a ≡ true) × (b ≡ true)
+both-true true b p = (refl, p)
+both-true false b p = absurd (clash false p refl)
+
+pub both-pass : {a b : Bool} → a ≡ true → b ≡ true → both a b ≡ true
+both-pass p q = rw p q
+
+pub not-true-false : (b : Bool) → (b ≡ true → ⊥) → b ≡ false
+not-true-false true f = absurd (f refl)
+not-true-false false f = refl
+
+pub either-true : (a b : Bool) → either a b ≡ true → (a ≡ false → b ≡ true)
+either-true true b p q = absurd (clash true refl q)
+either-true false b p q = p

@@ -13,7 +13,7 @@ use Rattle.tables.specs.declared.Check.{Check}
 use Rattle.tables.specs.declared.Check.the-variants.{Clean, Refused}
 use Rattle.tables.specs.declared.Refusal.the-variants.{TooShort, UnknownVersion, CountOutOfRange, LengthsDiffer}
 use Rattle.tables.specs.Layout.{byteAt, taskCount, rowCount, statedLength, lengthFor}
-use Rattle.tables.specs.Refusals.{firstIn}
+use Rattle.tables.specs.Refusals.{firstIn, unless, orElse}
 use Rattle.tables.specs.Rules.{between, countsFit, lengthsAgree}
 use Rattle.tables.specs.Checks.{headCheck}
 
@@ -23,17 +23,17 @@ both-right false b p = refl
 
 module _ (bytes : List ℕ) where
   pub head-short : length bytes < 5 → Refused TooShort ≡ headCheck bytes
-  unfolding firstIn headCheck
+  unfolding firstIn headCheck unless orElse
   head-short h = rw (lt-leb 5 (length bytes) h)
 
   module _ (long : 5 ≤ length bytes) where
     pub head-version : (byteAt bytes 0 ≡ 1 → ⊥) → Refused UnknownVersion ≡ headCheck bytes
-    unfolding firstIn headCheck
+    unfolding firstIn headCheck unless orElse
     head-version h = rw (le-leb 5 (length bytes) long, ne-eqb (byteAt bytes 0) 1 h)
 
     module _ (version : byteAt bytes 0 ≡ 1) where
       head-counts : countsFit (taskCount bytes) (rowCount bytes) ≡ false → Refused CountOutOfRange ≡ headCheck bytes
-      unfolding firstIn headCheck
+      unfolding firstIn headCheck unless orElse
       head-counts h = rw (le-leb 5 (length bytes) long, eq-eqb (byteAt bytes 0) 1 version, h)
 
       -- n or m, as the code has read it, is out of range
@@ -52,7 +52,7 @@ module _ (bytes : List ℕ) where
         counts = rw (sym (ap (between 1 32) tasks) ∙ n-fits, sym (ap (between 0 64) rows) ∙ m-fits)
 
         head-lengths : lengthsAgree bytes ≡ false → Refused LengthsDiffer ≡ headCheck bytes
-        unfolding firstIn headCheck
+        unfolding firstIn headCheck unless orElse
         head-lengths h = rw (le-leb 5 (length bytes) long, eq-eqb (byteAt bytes 0) 1 version, counts, h)
 
         pub head-stated : (statedLength bytes ≡ length bytes → ⊥) → Refused LengthsDiffer ≡ headCheck bytes
@@ -68,7 +68,7 @@ module _ (bytes : List ℕ) where
             (λ (e : lengthFor (taskCount bytes) (rowCount bytes) ≡ length bytes). h (omega arith))))
 
         pub head-clean : statedLength bytes ≡ length bytes → 5 + 17 * n + 6 * m ≡ length bytes → Clean ≡ headCheck bytes
-        unfolding firstIn headCheck lengthsAgree
+        unfolding firstIn headCheck lengthsAgree unless orElse
         head-clean stated summed =
             rw (
               le-leb 5 (length bytes) long,

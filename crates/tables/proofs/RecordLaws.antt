@@ -19,7 +19,7 @@ use Rattle.tables.specs.declared.Check.{Check}
 use Rattle.tables.specs.declared.Check.the-variants.{Clean, Refused}
 use Rattle.tables.specs.declared.Refusal.the-variants.{NumberOutOfRange, PriorityOutOfOrder}
 use Rattle.tables.specs.Layout.{taskCount, recordStart, recordFrom, taskAt, priorityIn}
-use Rattle.tables.specs.Refusals.{at, isClean}
+use Rattle.tables.specs.Refusals.{at, isClean, unless, orElse}
 use Rattle.tables.specs.Rules.{between, numbersFit, priorityFits}
 use Rattle.tables.specs.Checks.{recordCheck, recordsCheck, recordsRead}
 use Rattle.tables.specs.Reading.{RecordsFit}
@@ -96,7 +96,7 @@ module _ (bytes : List ℕ) (n : ℕ) where
         )
 
     pub numbers-wrong : numbersFit task ≡ false → (Refused (NumberOutOfRange (at i)) ≡ recordsCheck bytes) × (recordsRead bytes ≡ i)
-    unfolding recordCheck
+    unfolding recordCheck unless orElse
     numbers-wrong wrong =
         record-found (Refused (NumberOutOfRange (at i))) (rw (ap numbersFit (sym (as-task r task is)) ∙ wrong)) refl
 
@@ -107,13 +107,13 @@ module _ (bytes : List ℕ) (n : ℕ) where
 
       pub priority-wrong : between 1 (before - 1) p ≡ false →
           (Refused (PriorityOutOfOrder (at i)) ≡ recordsCheck bytes) × (recordsRead bytes ≡ i)
-      unfolding recordCheck
+      unfolding recordCheck unless orElse
       priority-wrong wrong =
           record-found (Refused (PriorityOutOfOrder (at i)))
           (rw (ap numbersFit (sym (as-task r task is)) ∙ fits, sym same-test ∙ wrong)) refl
 
       record-clean : between 1 (before - 1) p ≡ true → recordCheck bytes i ≡ Clean
-      unfolding recordCheck
+      unfolding recordCheck unless orElse
       record-clean right = rw (ap numbersFit (sym (as-task r task is)) ∙ fits, sym same-test ∙ right)
 
       pub reading-more : between 1 (before - 1) p ≡ true → Reading bytes n (i + 1) (offset + 17) p

@@ -20,7 +20,7 @@ use Rattle.tables.specs.declared.Check.{Check}
 use Rattle.tables.specs.declared.Check.the-variants.{Clean, Refused}
 use Rattle.tables.specs.declared.Refusal.the-variants.{SectionRow}
 use Rattle.tables.specs.Layout.{taskCount, rowCount, rowStart, rowFrom, rowAt, costIn, semaphoreIn}
-use Rattle.tables.specs.Refusals.{at, isClean}
+use Rattle.tables.specs.Refusals.{at, isClean, unless}
 use Rattle.tables.specs.Rules.{between, rowFits, rowHolds, rowInOrder, rowAfter}
 use Rattle.tables.specs.Checks.{rowCheck, rowsCheck, rowsRead}
 use Rattle.tables.specs.Reading.{RowsFit, rowKey, rowRight}
@@ -127,7 +127,7 @@ module _ (bytes : List ℕ) (n m : ℕ) (costs : List ℕ) where
         ∙ ap (λ (r : Row). rowHolds (taskCount bytes) (costIn bytes (r .place)) (rowInOrder bytes k r) r) as-row
 
     pub row-wrong : rowRight n costs before row ≡ false → (Refused (SectionRow (at k)) ≡ rowsCheck bytes) × (rowsRead bytes ≡ k)
-    unfolding rowsCheck rowCheck
+    unfolding rowsCheck rowCheck unless
     row-wrong wrong =
         let e : rowCheck bytes k ≡ Refused (SectionRow (at k)) = rw (sym row-test ∙ wrong) in
         let fault : isClean (rowCheck bytes k) ≡ false = ap isClean e in
@@ -137,7 +137,7 @@ module _ (bytes : List ℕ) (n m : ℕ) (costs : List ℕ) where
         )
 
     row-clean : rowRight n costs before row ≡ true → rowCheck bytes k ≡ Clean
-    unfolding rowCheck
+    unfolding rowCheck unless
     row-clean right = rw (sym row-test ∙ right)
 
     pub scanning-more : rowRight n costs before row ≡ true → (next : ℕ) → next ≡ rowKey row → Scanning bytes n m costs (k + 1) (offset + 6) next

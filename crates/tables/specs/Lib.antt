@@ -3,3 +3,4 @@ pub mod Refusals
 pub mod Rules
 pub mod Checks
 pub mod Reading
+pub mod Meaning

@@ -37,12 +37,12 @@ isClean Clean = true
 isClean (Refused r) = false
 
 -- clean where the test passes, and else that refusal
-abbrev pub unless : Bool → Refusal → Check
+unfoldable pub unless : Bool → Refusal → Check
 unless true r = Clean
 unless false r = Refused r
 
 -- the first check, and the second where the first is clean
-abbrev pub orElse : Check → Check → Check
+unfoldable pub orElse : Check → Check → Check
 orElse Clean second = second
 orElse (Refused r) second = Refused r
 
