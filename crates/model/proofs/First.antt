@@ -94,3 +94,10 @@ module _ {A : Type 0} (clean : A → Bool) (none : A) (none-clean : clean none �
               let g = first-found n x in
               (g .0, omega (arith, g .1), after-fault n x ∙ g .2, g .3)
         ]
+
+module _ {A : Type 0} (clean : A → Bool) (none : A) where
+  -- two functions that agree below n have the same first answer that is not clean
+  pub first-same : (f g : ℕ → A) (n : ℕ) → ((k : ℕ) → k < n → f k ≡ g k) → firstOf clean none f n ≡ firstOf clean none g n
+  unfolding firstOf
+  first-same f g zero h = refl
+  first-same f g (suc n) h = rw (first-same f g n (λ k l. h k (omega arith)), h n (omega arith))

@@ -4,3 +4,4 @@ pub mod Search
 pub mod First
 pub mod Filling
 pub mod Tasks
+pub mod Keep

@@ -104,3 +104,9 @@ largest-more f n = rw add-one
 pub largest-none : (f : ℕ → ℕ) → largestTo f 0 ≡ 0
 unfolding largestTo
 largest-none f = refl
+
+-- a bound on each is a bound on the largest
+pub largest-high : (f : ℕ → ℕ) (n high : ℕ) → ((k : ℕ) → k < n → f k ≤ high) → largestTo f n ≤ high
+unfolding largestTo
+largest-high f zero high h = omega arith
+largest-high f (suc n) high h = omega (arith, largest-high f n high (λ k l. h k (omega arith)), h n (omega arith))

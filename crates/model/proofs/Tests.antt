@@ -7,7 +7,7 @@ use mathlib.Core.Logic.{_⊎_, inl, inr}
 use native.Mathlib.Omega.{arith}
 use lib.Dec.{ltb, leb, eqb}
 use borrow.Author.Tests.{ltb-true, ltb-false, leb-true, leb-false, eqb-true, eqb-false, not-true, not-false}
-use Rattle.model.specs.Choice.{both, either}
+use Rattle.model.specs.Choice.{both, either, on}
 
 pub bool? : (b : Bool) → (b ≡ true) ⊎ (b ≡ false)
 bool? true = inl refl
@@ -75,3 +75,12 @@ not-true-false false f = refl
 pub either-true : (a b : Bool) → either a b ≡ true → (a ≡ false → b ≡ true)
 either-true true b p q = absurd (clash true refl q)
 either-true false b p q = p
+
+-- what stands behind a test is no more than it is
+pub on-high : (b : Bool) (n : ℕ) → on b n ≤ n
+on-high true n = omega arith
+on-high false n = omega arith
+
+pub both-fail : (a b : Bool) → b ≡ false → both a b ≡ false
+both-fail true b p = p
+both-fail false b p = refl

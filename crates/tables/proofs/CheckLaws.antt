@@ -20,7 +20,7 @@ use Rattle.tables.specs.declared.Check.the-variants.{Clean, Refused}
 use Rattle.tables.specs.Layout.{versionOf, taskCount, rowCount, taskAt}
 use Rattle.tables.specs.Refusals.{at, isClean, unless, orElse, firstIn}
 use Rattle.tables.specs.Rules.{countsFit, lengthsAgree, numbersFit, priorityFits, rowFits}
-use Rattle.tables.specs.Checks.{recordCheck, rowCheck, headCheck, recordsCheck, rowsCheck, roomCheck, tableCheck}
+use Rattle.tables.specs.Checks.{recordCheck, rowCheck, headCheck, recordsCheck, rowsCheck, roomCheck, tableCheck, recordsRead, rowsRead}
 use Rattle.tables.specs.Meaning.{LongEnough, VersionKnown, CountsInRange, LengthsEqual, NumbersInRange, PriorityInOrder, RowInOrder, RoomFor, HeadRight, RecordsRight, RowsRight, TableRight, Deserved}
 use Rattle.tables.proofs.MeaningLaws as meaning
 
@@ -123,6 +123,15 @@ module _ (bytes : List ℕ) where
   unfolding rowsCheck
   rows-clean r =
       first-laws.none-found isClean Clean refl (rowCheck bytes) clean-only (rowCount bytes) (λ j h. row-clean j (r j h))
+
+  -- where no record, or no row, is at fault, all are read
+  pub records-all : recordsCheck bytes ≡ Clean → recordsRead bytes ≡ taskCount bytes
+  unfolding recordsCheck
+  records-all e = first-laws.count-on isClean Clean refl (recordCheck bytes) (taskCount bytes) e
+
+  pub rows-all : rowsCheck bytes ≡ Clean → rowsRead bytes ≡ rowCount bytes
+  unfolding rowsCheck
+  rows-all e = first-laws.count-on isClean Clean refl (rowCheck bytes) (rowCount bytes) e
 
   module _ (answers rounds : ℕ) where
     -- a table that breaks no rule, with room, is not refused

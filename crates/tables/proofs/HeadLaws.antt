@@ -9,6 +9,7 @@ use lib.Dec.{eqb, leb}
 use lib.ListN.{length}
 use borrow.Author.Tests.{le-leb, lt-leb, eq-eqb, ne-eqb}
 use Rattle.model.specs.Choice.{both}
+use Rattle.model.proofs.Tests.{both-fail}
 use Rattle.tables.specs.declared.Check.{Check}
 use Rattle.tables.specs.declared.Check.the-variants.{Clean, Refused}
 use Rattle.tables.specs.declared.Refusal.the-variants.{TooShort, UnknownVersion, CountOutOfRange, LengthsDiffer}
@@ -16,10 +17,6 @@ use Rattle.tables.specs.Layout.{byteAt, taskCount, rowCount, statedLengt
 use Rattle.tables.specs.Refusals.{firstIn, unless, orElse}
 use Rattle.tables.specs.Rules.{between, countsFit, lengthsAgree}
 use Rattle.tables.specs.Checks.{headCheck}
-
-pub both-right : (a b : Bool) → b ≡ false → both a b ≡ false
-both-right true b p = p
-both-right false b p = refl
 
 module _ (bytes : List ℕ) where
   pub head-short : length bytes < 5 → Refused TooShort ≡ headCheck bytes
@@ -43,7 +40,7 @@ module _ (bytes : List ℕ) where
 
       pub head-rows : (m : ℕ) → m ≡ rowCount bytes → between 0 64 m ≡ false → Refused CountOutOfRange ≡ headCheck bytes
       unfolding countsFit
-      head-rows m e h = head-counts (both-right (between 1 32 (taskCount bytes)) (between 0 64 (rowCount bytes)) (sym (ap (between 0 64) e) ∙ h))
+      head-rows m e h = head-counts (both-fail (between 1 32 (taskCount bytes)) (between 0 64 (rowCount bytes)) (sym (ap (between 0 64) e) ∙ h))
 
       module _ (n m : ℕ) (tasks : n ≡ taskCount bytes) (rows : m ≡ rowCount bytes) (n-fits : between 1 32 n ≡ true)
           (m-fits : between 0 64 m ≡ true) where
@@ -63,7 +60,7 @@ module _ (bytes : List ℕ) where
         unfolding lengthsAgree
         head-summed h =
             head-lengths
-            (both-right (eqb (statedLength bytes) (length bytes)) _
+            (both-fail (eqb (statedLength bytes) (length bytes)) _
             (ne-eqb (lengthFor (taskCount bytes) (rowCount bytes)) (length bytes)
             (λ (e : lengthFor (taskCount bytes) (rowCount bytes) ≡ length bytes). h (omega arith))))
 

@@ -1,0 +1,103 @@
+-- One turn of the loop over the tasks of a decoded table.
+-- Assumes nothing.
+use Prim.Native.Nat.{ℕ, zero, suc, _+_, _≤_, _<_}
+use native.Mathlib.Omega.{arith}
+use native.Mathlib.Numerals.{add-one}
+use mathlib.Core.Path.{_≡_, refl, sym, _∙_, ap}
+use mathlib.Core.Bool.{true}
+use mathlib.Core.List.{List}
+use lib.ListN.{length, getD}
+use lib.Dec.{leb, ltb}
+use Rattle.model.specs.Choice.{pick, both}
+use Rattle.model.specs.Lists.{largestTo}
+use Rattle.model.specs.Search.{firstOf}
+use Rattle.model.proofs.Lists.{largest-high}
+use Rattle.model.proofs.Tests.{on-high}
+use Rattle.model.proofs.First as first-laws
+use Rattle.tables.specs.Refusals.{at}
+use Rattle.equation.specs.Demand.{demand}
+use Rattle.equation.specs.Slices.{LoadsFit}
+use Rattle.equation.specs.Solver.{Solvable, SolvedBy}
+use Rattle.equation.proofs.Laws.{demandGrows}
+use Rattle.blocking.specs.Slices.{sectionAt}
+use Rattle.response.specs.declared.Verdict.{Verdict}
+use Rattle.response.specs.declared.Verdict.the-variants.{Schedulable}
+use Rattle.response.specs.Verdicts.{isSchedulable}
+use Rattle.response.specs.Outcome.{lateIf, lateAt, resultOf}
+use Rattle.response.specs.Slices.{Decoded, DecodedFits, baseIn, loadsIn, answerIn, roundsIn}
+
+loads-less : (periods costs spreads : List ℕ) (n i : ℕ) → LoadsFit periods costs spreads n → i ≤ n → LoadsFit periods costs spreads i
+loads-less periods costs spreads n i f h =
+    record {
+      few = omega (arith, f .few);
+      periodsLong = omega (arith, f .periodsLong);
+      costsLong = omega (arith, f .costsLong);
+      spreadsLong = omega (arith, f .spreadsLong);
+      each = λ k l. f .each k (omega arith);
+    }
+
+-- before task i is answered
+pub record Answering (d : Decoded) (n i : ℕ) (verdict : Verdict) : Type 0 where
+  pub fits : DecodedFits d n
+  pub within : i ≤ n
+  pub result : verdict ≡ resultOf (answerIn d) i
+
+module _ (d : Decoded) (n : ℕ) where
+  pub answering-none : DecodedFits d n → Answering d n 0 Schedulable
+  answering-none f =
+      record
+      { fits = f; within = omega arith; result = sym (first-laws.first-none isSchedulable Schedulable refl (lateAt (answerIn d))) }
+
+  module _ (i held : ℕ) (f : DecodedFits d n) (h : i < n)
+      (is : held ≡ largestTo (sectionAt (d .owners) (d .tops) (d .longest) (getD (d .priorities) i 0)) (d .rows)) where
+    held-high : held ≤ 1000000
+    held-high =
+        rw is
+        (largest-high (sectionAt (d .owners) (d .tops) (d .longest) (getD (d .priorities) i 0)) (d .rows) 1000000
+        (λ k l.
+        let b = both (ltb (getD (d .owners) k 0) (getD (d .priorities) i 0)) (leb (getD (d .priorities) i 0) (getD (d .tops) k 0)) in
+        omega (arith, on-high b (getD (d .longest) k 0), f .longestHigh k l)))
+
+    -- cost and blocking fit a word
+    pub base-fits : getD (d .costs) i 0 + held ≤ 2000000
+    base-fits = omega (arith, held-high, f .loadsFit .each i h)
+
+    pub loads-fit : LoadsFit (d .periods) (d .costs) (d .jitters) i
+    loads-fit = loads-less (d .periods) (d .costs) (d .jitters) n i (f .loadsFit) (omega arith)
+
+    -- the sequence may start at cost and blocking: every solution is at least that
+    pub solvable : Solvable (getD (d .costs) i 0 + held) (loadsIn d i) (getD (d .costs) i 0 + held) (getD (d .jitters) i 0) (getD (d .deadlines) i 0)
+    solvable =
+        let base = getD (d .costs) i 0 + held in
+        record {
+          basePositive = omega (arith, f .costLow i h);
+          notAbove = λ w one e. omega (arith, demandGrows .atLeastBase base (loadsIn d i) w);
+          startHigh = omega (arith, base-fits);
+          lateHigh = omega (arith, f .loadsFit .each i h);
+          deadlineHigh = f .deadlineHigh i h;
+        }
+
+    module _ (response spent : ℕ)
+        (solved : SolvedBy (getD (d .costs) i 0 + held) (loadsIn d i) (getD (d .costs) i 0 + held) (getD (d .jitters) i 0) (getD (d .deadlines) i 0) response spent) where
+      pub response-is : response ≡ answerIn d i
+      unfolding answerIn
+      response-is = rw is at (solved .response)
+
+      pub rounds-are : spent ≡ roundsIn d i
+      unfolding roundsIn
+      rounds-are = rw is at (solved .rounds)
+
+  pub answering-more : (i : ℕ) (verdict next : Verdict) (response : ℕ) → Answering d n i verdict → i < n → response ≡ answerIn d i →
+      next ≡ pick (isSchedulable verdict) (lateIf response (at i)) verdict → Answering d n (i + 1) next
+  unfolding firstOf
+  answering-more i verdict next response a h e step =
+      record {
+        fits = a .fits;
+        within = omega arith;
+        result = rw add-one (step ∙ rw (e, a .result));
+      }
+
+  pub answering-all : (i : ℕ) (verdict : Verdict) → Answering d n i verdict → n ≤ i → (n ≡ i) × (verdict ≡ resultOf (answerIn d) n)
+  answering-all i verdict a h =
+      let all : n ≡ i = omega (arith, a .within) in
+      (all, rw all (a .result))

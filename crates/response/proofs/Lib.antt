@@ -1,0 +1,5 @@
+pub mod AnsweringLaws
+pub mod TableLaws
+pub mod DecodedLaws
+pub mod OutcomeLaws
+pub mod StageLaws

@@ -1,0 +1,105 @@
+-- What each stage has in its slices, and what the next one asks.
+-- Assumes nothing.
+use Prim.Native.Nat.{ℕ, _+_, _*_, _≤_, _<_}
+use native.Mathlib.Omega.{arith}
+use mathlib.Core.Path.{_≡_, refl, sym, _∙_, ap}
+use mathlib.Core.List.{List}
+use lib.ListN.{length, getD}
+use Rattle.model.specs.Lists.{filled}
+use Rattle.tables.specs.declared.Check.the-variants.{Clean}
+use Rattle.tables.specs.Layout.{taskCount, rowCount, recordStart, rowStart, priorityIn, periodIn, costIn, deadlineIn, jitterIn, placeIn, semaphoreIn, longestIn}
+use Rattle.tables.specs.Checks.{headCheck, recordsCheck, rowsCheck, recordsRead, rowsRead}
+use Rattle.tables.specs.Reading.{RecordsFit, RowsFit}
+use Rattle.tables.specs.Meaning.{HeadRight}
+use Rattle.tables.proofs.CheckLaws.{head-right, records-all, rows-all}
+use Rattle.response.specs.Stages.{Holds, RecordsHeld, RowsRead}
+use Rattle.response.proofs.DecodedLaws.{holds-filled}
+
+module _ (bytes : List ℕ) (clean : headCheck bytes ≡ Clean) where
+  right : HeadRight bytes
+  right = head-right bytes clean
+
+  pub long-enough : 5 ≤ length bytes
+  long-enough = right .longEnough
+
+  module _ (n : ℕ) (counted : n ≡ taskCount bytes) where
+    few-tasks : n ≤ 32
+    few-tasks = omega (arith, right .counts .tasksHigh)
+
+    records-within : recordStart n ≤ length bytes
+    records-within = omega (arith, right .lengths .summed)
+
+    -- a slice of 32 words that was filled with all the records' fields
+    filled-32 : (f : ℕ → ℕ) (old new : List ℕ) → recordsCheck bytes ≡ Clean → length old ≡ 32 → new ≡ filled f (recordsRead bytes) old → Holds new n f
+    filled-32 f old new records long e =
+        holds-filled f n old new (e ∙ ap (λ (k : ℕ). filled f k old) (records-all bytes records ∙ sym counted)) (omega (arith, few-tasks))
+
+    module _ (priorities periods costs deadlines jitters : List ℕ) (prioritiesLong : length priorities ≡ 32)
+        (periodsLong : length periods ≡ 32) (costsLong : length costs ≡ 32) (deadlinesLong : length deadlines ≡ 32)
+        (jittersLong : length jitters ≡ 32) where
+      pub records-fit : RecordsFit bytes n priorities periods costs deadlines jitters
+      records-fit =
+          record {
+            counted = counted;
+            within = records-within;
+            prioritiesLong = omega (arith, few-tasks);
+            periodsLong = omega (arith, few-tasks);
+            costsLong = omega (arith, few-tasks);
+            deadlinesLong = omega (arith, few-tasks);
+            jittersLong = omega (arith, few-tasks);
+          }
+
+      pub records-held : (priorities′ periods′ costs′ deadlines′ jitters′ : List ℕ) → recordsCheck bytes ≡ Clean →
+          priorities′ ≡ filled (priorityIn bytes) (recordsRead bytes) priorities →
+          periods′ ≡ filled (periodIn bytes) (recordsRead bytes) periods →
+          costs′ ≡ filled (costIn bytes) (recordsRead bytes) costs →
+          deadlines′ ≡ filled (deadlineIn bytes) (recordsRead bytes) deadlines →
+          jitters′ ≡ filled (jitterIn bytes) (recordsRead bytes) jitters →
+          RecordsHeld bytes n priorities′ periods′ costs′ deadlines′ jitters′
+      records-held priorities′ periods′ costs′ deadlines′ jitters′ records priority period cost deadline jitter =
+          record {
+            head = clean;
+            records = records;
+            counted = counted;
+            prioritiesHeld = filled-32 (priorityIn bytes) priorities priorities′ records prioritiesLong priority;
+            periodsHeld = filled-32 (periodIn bytes) periods periods′ records periodsLong period;
+            costsHeld = filled-32 (costIn bytes) costs costs′ records costsLong cost;
+            deadlinesHeld = filled-32 (deadlineIn bytes) deadlines deadlines′ records deadlinesLong deadline;
+            jittersHeld = filled-32 (jitterIn bytes) jitters jitters′ records jittersLong jitter;
+          }
+
+    module _ (m : ℕ) (rowsCounted : m ≡ rowCount bytes) where
+      few-rows : m ≤ 64
+      few-rows = omega (arith, right .counts .rowsHigh)
+
+      filled-64 : (f : ℕ → ℕ) (old new : List ℕ) → rowsCheck bytes ≡ Clean → length old ≡ 64 → new ≡ filled f (rowsRead bytes) old → Holds new m f
+      filled-64 f old new rows long e =
+          holds-filled f m old new (e ∙ ap (λ (k : ℕ). filled f k old) (rows-all bytes rows ∙ sym rowsCounted)) (omega (arith, few-rows))
+
+      module _ (places semaphores longest : List ℕ) (placesLong : length places ≡ 64) (semaphoresLong : length semaphores ≡ 64)
+          (longestLong : length longest ≡ 64) where
+        pub rows-fit : (costs : List ℕ) → Holds costs n (costIn bytes) → RowsFit bytes n m costs places semaphores longest
+        rows-fit costs held =
+            record {
+              tasksCounted = counted;
+              rowsCounted = rowsCounted;
+              within = omega (arith, right .lengths .summed);
+              placesLong = omega (arith, few-rows);
+              semaphoresLong = omega (arith, few-rows);
+              longestLong = omega (arith, few-rows);
+              costsLong = held .long;
+              costsRead = held .read;
+            }
+
+        pub rows-read : (places′ semaphores′ longest′ : List ℕ) → rowsCheck bytes ≡ Clean →
+            places′ ≡ filled (placeIn bytes) (rowsRead bytes) places →
+            semaphores′ ≡ filled (semaphoreIn bytes) (rowsRead bytes) semaphores →
+            longest′ ≡ filled (longestIn bytes) (rowsRead bytes) longest → RowsRead bytes m places′ semaphores′ longest′
+        rows-read places′ semaphores′ longest′ rows place semaphore long =
+            record {
+              rows = rows;
+              counted = rowsCounted;
+              placesHeld = filled-64 (placeIn bytes) places places′ rows placesLong place;
+              semaphoresHeld = filled-64 (semaphoreIn bytes) semaphores semaphores′ rows semaphoresLong semaphore;
+              longestHeld = filled-64 (longestIn bytes) longest longest′ rows longestLong long;
+            }

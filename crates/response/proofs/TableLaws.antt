@@ -1,0 +1,67 @@
+-- The table that accepted bytes mean: its tasks fit, and the loads of a task are those of the places before it.
+-- Assumes nothing.
+use Prim.Native.Nat.{ℕ, zero, suc, _+_, _≤_, _<_}
+use native.Mathlib.Omega.{arith}
+use native.Mathlib.Decide.{ℕ-discrete}
+use mathlib.Core.Path.{_≡_, refl, sym, _∙_, ap, subst}
+use mathlib.Core.List.{List, map}
+use lib.ListN.{length, getD}
+use borrow.Author.Tests.{lt-ltb, le-ltb}
+use Rattle.model.specs.Lists.{tabulate, keep}
+use Rattle.model.specs.Tables.{Task, Load, taskOf, noTask, loadOf, loadsOf, moreUrgent}
+use Rattle.model.proofs.Lists.{getD-tabulate, length-tabulate}
+use Rattle.model.proofs.Keep.{keep-prefix, map-tabulate}
+use Rattle.tables.specs.Layout.{taskCount, taskAt, tasksOf, priorityIn}
+use Rattle.tables.specs.Meaning.{RecordsRight}
+use Rattle.runs.specs.Jobs.{TasksFit}
+use Rattle.runs.proofs.Loads.{falls}
+
+module _ (bytes : List ℕ) where
+  pub task-is : (i : ℕ) → i < taskCount bytes → taskOf (tasksOf bytes) i ≡ taskAt bytes i
+  task-is i h = getD-tabulate (taskAt bytes) (taskCount bytes) i noTask h
+
+  pub tasks-count : length (tasksOf bytes) ≡ taskCount bytes
+  tasks-count = length-tabulate (taskAt bytes) (taskCount bytes)
+
+  module _ (right : RecordsRight bytes (taskCount bytes)) where
+    pub tasks-fit : TasksFit (tasksOf bytes)
+    tasks-fit =
+        record {
+          periodLow = λ i h. rw (task-is i (inside i h)) (right .numbers i (inside i h) .periodLow);
+          costLow = λ i h. rw (task-is i (inside i h)) (right .numbers i (inside i h) .costLow);
+          deadlineLow = λ i h. rw (task-is i (inside i h)) (right .numbers i (inside i h) .deadlineLow);
+          deadlineHigh = λ i h. rw (task-is i (inside i h)) (right .numbers i (inside i h) .deadlineHigh);
+          fall = λ i h.
+              rw (task-is i (omega (arith, inside (suc i) h)), task-is (suc i) (inside (suc i) h))
+              (right .priorities (suc i) (inside (suc i) h) .falls i refl);
+        }
+      where
+        inside : (i : ℕ) → i < length (tasksOf bytes) → i < taskCount bytes
+        inside i h = omega (arith, tasks-count)
+
+    -- the more urgent tasks are those of the places before
+    later-falls : (i k : ℕ) → i < k → k < taskCount bytes → priorityIn bytes k < priorityIn bytes i
+    later-falls i k l h =
+        omega (
+          arith,
+          falls (tasksOf bytes) tasks-fit i k l (omega (arith, tasks-count)),
+          ap (λ (t : Task). t .priority) (task-is k h),
+          ap (λ (t : Task). t .priority) (task-is i (omega arith)),
+        )
+
+    not-urgent : (i k : ℕ) → i ≤ k → k < taskCount bytes → priorityIn bytes k ≤ priorityIn bytes i
+    not-urgent i k l h =
+        elim (ℕ-discrete i k) [
+          | yes e ↦ subst (λ (j : ℕ). priorityIn bytes j ≤ priorityIn bytes i) e (omega arith)
+          | no e ↦ omega (arith, later-falls i k (omega arith) h)
+        ]
+
+    pub loads-are : (load : ℕ → Load) (i : ℕ) → i < taskCount bytes → ((k : ℕ) → k < i → loadOf (taskAt bytes k) ≡ load k) →
+        loadsOf (tasksOf bytes) i ≡ tabulate load i
+    loads-are load i h same =
+        ap (λ (p : ℕ). map loadOf (keep (moreUrgent p) (tasksOf bytes))) (ap (λ (t : Task). t .priority) (task-is i h))
+        ∙ ap (map loadOf)
+        (keep-prefix (moreUrgent (priorityIn bytes i)) (taskAt bytes) (taskCount bytes) i (omega arith)
+        (λ k l. lt-ltb (priorityIn bytes i) (priorityIn bytes k) (later-falls k i l h))
+        (λ k l m. le-ltb (priorityIn bytes i) (priorityIn bytes k) (not-urgent i k l m)))
+        ∙ map-tabulate loadOf (taskAt bytes) load i same

@@ -1,0 +1,134 @@
+-- `response::answering::answer_all` meets its contract: each turn answers one task, by the laws of `AnsweringLaws`.
+-- Assumes nothing.
+use Prim.Native.Nat.{_-_}
+use native.Mathlib.Omega.{arith}
+use mathlib.Core.Path.{_≡_}
+use Rattle.model.proofs.Filling.{Filling, filling-none, filling-more, filling-at}
+use Rattle.response.specs.Slices.{decoded, answerIn, roundsIn}
+use Rattle.response.proofs.AnsweringLaws.{Answering, answering-none, answering-more, answering-all, base-fits, loads-fit, solvable, response-is, rounds-are}
+use Rattle.response.proofs.answering.answer_all.Statement.{statement}
+use Rattle.response.proofs.answering.answer_all.Tie as tie
+
+abbrev Inv-loop : tie.InvT-loop
+Inv-loop priorities periods costs deadlines jitters n owners tops longest m answers₀ rounds₀ verdict₀ i₀ answers rounds verdict i =
+    Answering (decoded priorities periods costs deadlines jitters owners tops longest m) n i verdict
+    × Filling (answerIn (decoded priorities periods costs deadlines jitters owners tops longest m)) n i answers₀ answers
+    × Filling (roundsIn (decoded priorities periods costs deadlines jitters owners tops longest m)) n i rounds₀ rounds
+
+abbrev μ-loop : tie.MeasureT-loop
+μ-loop priorities periods costs deadlines jitters n owners tops longest m answers₀ rounds₀ verdict₀ i₀ answers rounds verdict i = n - i
+
+loop-holds : tie.Need-loop-holds Inv-loop μ-loop
+loop-holds c = (answering-none _ _ (c .before .before .before .before .before .before .before .before .before .before .pre .0), filling-none _ _ _ (c .before .before .before .before .before .before .before .before .before .before .pre .1 .0), filling-none _ _ _ (c .before .before .before .before .before .before .before .before .before .before .pre .1 .1))
+
+shared-slice-read-t20 : tie.Need-shared-slice-read-t20 Inv-loop μ-loop
+shared-slice-read-t20 c = omega (arith, c .before .before .loop .inv .0 .fits .prioritiesLong, c .before .loop-test .taken)
+
+blocking-requires : tie.Need-blocking-requires Inv-loop μ-loop
+blocking-requires c κs =
+    let f = c .before .before .loop .inv .0 .fits in
+    ((f .ownersLong, f .topsLong), f .longestLong)
+
+mul-t22 : tie.Need-mul-t22 Inv-loop μ-loop
+mul-t22 c = omega arith
+
+shared-slice-read-t24 : tie.Need-shared-slice-read-t24 Inv-loop μ-loop
+shared-slice-read-t24 c = omega (arith, c .before .before .before .before .loop .inv .0 .fits .loadsFit .costsLong, c .before .before .before .loop-test .taken)
+
+add-t25 : tie.Need-add-t25 Inv-loop μ-loop
+add-t25 c = omega (arith, base-fits _ _ _ _ (c .before .before .before .before .before .loop .inv .0 .fits) (c .before .before .before .before .loop-test .taken) (c .before .before .blocking .ensures))
+
+mul-t22-2 : tie.Need-mul-t22-2 Inv-loop μ-loop
+mul-t22-2 c = omega arith
+
+shared-slice-read-t25 : tie.Need-shared-slice-read-t25 Inv-loop μ-loop
+shared-slice-read-t25 c = omega (arith, c .before .before .before .before .before .before .loop .inv .0 .fits .loadsFit .spreadsLong, c .before .before .before .before .before .loop-test .taken)
+
+mul-t28 : tie.Need-mul-t28 Inv-loop μ-loop
+mul-t28 c = omega arith
+
+shared-slice-read-t24-2 : tie.Need-shared-slice-read-t24-2 Inv-loop μ-loop
+shared-slice-read-t24-2 c = omega (arith, c .before .before .before .before .before .before .before .loop .inv .0 .fits .deadlinesLong, c .before .before .before .before .before .before .loop-test .taken)
+
+solve-requires : tie.Need-solve-requires Inv-loop μ-loop
+solve-requires c κs = (
+  loads-fit _ _ _ _ (c .before .before .before .before .before .before .before .loop .inv .0 .fits) (c .before .before .before .before .before .before .loop-test .taken) (c .before .before .before .before .blocking .ensures),
+  solvable _ _ _ _ (c .before .before .before .before .before .before .before .loop .inv .0 .fits) (c .before .before .before .before .before .before .loop-test .taken) (c .before .before .before .before .blocking .ensures),
+)
+
+mul-answers : tie.Need-mul-answers Inv-loop μ-loop
+mul-answers c = omega arith
+
+slice-write-answers : tie.Need-slice-write-answers Inv-loop μ-loop
+slice-write-answers c = omega (arith, c .before .before .before .before .before .before .before .before .loop .inv .1 .long, c .before .before .before .before .before .before .before .before .loop .inv .1 .room, c .before .before .before .before .before .before .before .loop-test .taken)
+
+mul-rounds : tie.Need-mul-rounds Inv-loop μ-loop
+mul-rounds c = omega arith
+
+slice-write-rounds : tie.Need-slice-write-rounds Inv-loop μ-loop
+slice-write-rounds c = omega (arith, c .before .before .before .before .before .before .before .before .loop .inv .2 .long, c .before .before .before .before .before .before .before .before .loop .inv .2 .room, c .before .before .before .before .before .before .before .loop-test .taken)
+
+with-answer-requires : tie.Need-with-answer-requires Inv-loop μ-loop
+with-answer-requires c κs = omega arith
+
+add-i : tie.Need-add-i Inv-loop μ-loop
+add-i c = omega arith
+
+loop-less : tie.Need-loop-less Inv-loop μ-loop
+loop-less c = omega arith
+
+loop-again : tie.Need-loop-again Inv-loop μ-loop
+loop-again c =
+    let v = c .before .before .before .before .before .before .before .before .before .loop .inv in
+    let h = c .before .before .before .before .before .before .before .before .loop-test .taken in
+    let answer = response-is _ _ _ _ (v .0 .fits) h (c .before .before .before .before .before .before .blocking .ensures) _ _ (c .before .solve .ensures) in
+    let spent = rounds-are _ _ _ _ (v .0 .fits) h (c .before .before .before .before .before .before .blocking .ensures) _ _ (c .before .solve .ensures) in (
+      answering-more _ _ _ _ _ _ (v .0) h answer (c .with-answer .ensures),
+      filling-more _ _ _ _ _ _ (v .1) h answer,
+      filling-more _ _ _ _ _ _ (v .2) h spent,
+    )
+
+same-length : tie.Need-same-length Inv-loop μ-loop
+same-length c = c .before .loop .inv .1 .long
+
+same-length-2 : tie.Need-same-length-2 Inv-loop μ-loop
+same-length-2 c = c .before .loop .inv .2 .long
+
+returns : tie.Need-returns Inv-loop μ-loop
+returns c =
+    let v = c .before .loop .inv in
+    let w = answering-all _ _ _ _ (v .0) (c .loop-test .left) in
+    record {
+      verdictIs = w .1;
+      answersAre = filling-at _ _ _ _ _ (v .1) _ (w .0);
+      roundsAre = filling-at _ _ _ _ _ (v .2) _ (w .0);
+    }
+
+pub answer-all-spec : {M : Type 1} → statement M
+answer-all-spec =
+    tie.close
+    (tie.spec
+    Inv-loop
+    μ-loop
+    loop-holds
+    shared-slice-read-t20
+    blocking-requires
+    mul-t22
+    shared-slice-read-t24
+    add-t25
+    mul-t22-2
+    shared-slice-read-t25
+    mul-t28
+    shared-slice-read-t24-2
+    solve-requires
+    mul-answers
+    slice-write-answers
+    mul-rounds
+    slice-write-rounds
+    with-answer-requires
+    add-i
+    loop-less
+    loop-again
+    same-length
+    same-length-2
+    returns)

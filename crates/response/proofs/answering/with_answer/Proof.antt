@@ -1,0 +1,39 @@
+-- `response::answering::with_answer` meets its contract, case by case.
+-- Assumes nothing.
+use borrow.Author.Tests.{eq-eqb, ne-eqb}
+use borrow.Author.Needs.{needs}
+use Rattle.response.proofs.answering.with_answer.Statement.{statement}
+use Rattle.response.proofs.answering.with_answer.Tie as tie
+
+enum-known-verdict : tie.Need-enum-known-verdict
+enum-known-verdict c = search needs
+
+enum-told : tie.Need-enum-told
+enum-told c = search needs
+
+enum-known-verdict-2 : tie.Need-enum-known-verdict-2
+enum-known-verdict-2 c = search needs
+
+returns : tie.Need-returns
+returns c = rw (c .before .verdict .given .1)
+
+returns-2 : tie.Need-returns-2
+returns-2 c = rw (c .before .before .enum-told .given .1, eq-eqb _ _ (c .if1 .taken))
+
+returns-3 : tie.Need-returns-3
+returns-3 c = rw (c .before .before .enum-told .given .1, ne-eqb _ _ (c .if1 .left))
+
+returns-4 : tie.Need-returns-4
+returns-4 c = rw (c .before .verdict2 .given .1)
+
+pub with-answer-spec : {M : Type 1} → statement M
+with-answer-spec =
+    tie.close
+    (tie.spec
+    enum-known-verdict
+    enum-told
+    enum-known-verdict-2
+    returns
+    returns-2
+    returns-3
+    returns-4)

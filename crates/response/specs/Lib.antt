@@ -1,0 +1,5 @@
+pub mod Analysis
+pub mod Verdicts
+pub mod Outcome
+pub mod Slices
+pub mod Stages

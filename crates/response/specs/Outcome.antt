@@ -1,0 +1,61 @@
+-- What `analyse` answers and leaves in both slices, for any bytes and any slices (document 01, "Refusals").
+-- Assumes nothing.
+use Prim.Native.Nat.{ℕ}
+use mathlib.Core.Path.{_≡_}
+use mathlib.Core.List.{List}
+use lib.Dec.{eqb}
+use lib.ListN.{length}
+use Rattle.model.specs.Choice.{pick}
+use Rattle.model.specs.Lists.{filled}
+use Rattle.model.specs.Search.{firstOf}
+use Rattle.model.specs.Tables.{Table}
+use Rattle.model.specs.declared.Place.{Place}
+use Rattle.tables.specs.declared.Check.{Check}
+use Rattle.tables.specs.declared.Check.the-variants as check
+use Rattle.tables.specs.Layout.{taskCount, tableOf}
+use Rattle.tables.specs.Refusals.{at}
+use Rattle.tables.specs.Checks.{tableCheck}
+use Rattle.response.specs.declared.Verdict.{Verdict}
+use Rattle.response.specs.declared.Verdict.the-variants.{Refused, Schedulable, Late}
+use Rattle.response.specs.Verdicts.{isSchedulable}
+use Rattle.response.specs.Analysis.{answerOf, roundsOf}
+
+-- late at a place, where the answer is 0
+abbrev pub lateIf : ℕ → Place → Verdict
+lateIf answer place = pick (eqb answer 0) (Late place) Schedulable
+
+abbrev pub lateAt : (ℕ → ℕ) → ℕ → Verdict
+lateAt answers i = lateIf (answers i) (at i)
+
+-- "the result is "schedulable" or "late" with the first place whose answer is 0"
+abbrev pub resultOf : (ℕ → ℕ) → ℕ → Verdict
+resultOf answers n = firstOf isSchedulable Schedulable (lateAt answers) n
+
+-- "A refusal returns the number and the place"; otherwise the result
+abbrev pub verdictFor : Check → Verdict → Verdict
+verdictFor check.Clean result = result
+verdictFor (check.Refused refusal) result = Refused refusal
+
+unfoldable pub verdictOf : List ℕ → ℕ → ℕ → Verdict
+verdictOf bytes answers rounds =
+    verdictFor (tableCheck bytes answers rounds) (resultOf (answerOf (tableOf bytes)) (taskCount bytes))
+
+-- "and changes no word. Otherwise words 0 to n−1 of each answer slice are written, .. later words stay"
+abbrev pub wordsAfter : Check → List ℕ → List ℕ → List ℕ
+wordsAfter check.Clean written old = written
+wordsAfter (check.Refused refusal) written old = old
+
+-- "answers in the first and rounds in the second"
+unfoldable pub answersAfter : List ℕ → List ℕ → List ℕ → List ℕ
+answersAfter bytes answers rounds =
+    wordsAfter (tableCheck bytes (length answers) (length rounds)) (filled (answerOf (tableOf bytes)) (taskCount bytes) answers) answers
+
+unfoldable pub roundsAfter : List ℕ → List ℕ → List ℕ → List ℕ
+roundsAfter bytes answers rounds =
+    wordsAfter (tableCheck bytes (length answers) (length rounds)) (filled (roundsOf (tableOf bytes)) (taskCount bytes) rounds) rounds
+
+-- The whole outcome: the verdict, and every word of both slices.
+pub record Outcome (bytes answers rounds : List ℕ) (verdict : Verdict) (answersLeft roundsLeft : List ℕ) : Type 0 where
+  pub verdictIs : verdict ≡ verdictOf bytes (length answers) (length rounds)
+  pub answersAre : answersLeft ≡ answersAfter bytes answers rounds
+  pub roundsAre : roundsLeft ≡ roundsAfter bytes answers rounds

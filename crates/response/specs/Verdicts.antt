@@ -1,0 +1,26 @@
+-- What each verdict says in document 01's words: a number, and the place where it has one.
+-- Assumes nothing.
+use Prim.Native.Nat.{ℕ}
+use mathlib.Core.Bool.{Bool, true, false}
+use Rattle.model.specs.declared.Place.{Place}
+use Rattle.tables.specs.declared.Refusal.{Refusal}
+use Rattle.tables.specs.Refusals.{numberOf, placeOf}
+use Rattle.response.specs.declared.Verdict.{Verdict}
+use Rattle.response.specs.declared.Verdict.the-variants.{Refused, Schedulable, Late}
+
+-- the refusal's number; 0 for "schedulable", and 255 for "late", which no refusal has
+abbrev pub codeOf : Verdict → ℕ
+codeOf (Refused refusal) = numberOf refusal
+codeOf Schedulable = 0
+codeOf (Late place) = 255
+
+-- the refusal's place, or "the first place whose answer is 0"
+abbrev pub verdictPlace : Verdict → ℕ
+verdictPlace (Refused refusal) = placeOf refusal
+verdictPlace Schedulable = 0
+verdictPlace (Late place) = place .0
+
+abbrev pub isSchedulable : Verdict → Bool
+isSchedulable (Refused refusal) = false
+isSchedulable Schedulable = true
+isSchedulable (Late place) = false

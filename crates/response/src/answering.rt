@@ -1,0 +1,71 @@
+// The answers of a decoded table, task by task. It knows no bytes.
+ghost use mathlib.Core.Path.{_≡_};
+ghost use Prim.Native.Nat.{_≤_};
+ghost use lib.ListN.{length};
+ghost use Rattle.model.specs.Choice.{pick};
+ghost use Rattle.response.specs.Verdicts.{isSchedulable};
+ghost use Rattle.response.specs.Outcome.{lateIf};
+ghost use Rattle.response.specs.Slices.{decoded, DecodedFits, Answered};
+use crate::Verdict;
+use blocking::blocking;
+use equation::solve;
+use model::Place;
+use model::Priority;
+use model::Ticks;
+
+// The verdict with one answer more: the first late place stays.
+fn with_answer(verdict: Verdict, answer: Ticks, at: Place) -> Verdict
+    ensures { λ r. ⌜ r ≡ pick (isSchedulable verdict) (lateIf (answer .0) at) verdict ⌝ }
+{
+    match verdict {
+        Verdict::Refused(refusal) => Verdict::Refused(refusal),
+        Verdict::Schedulable => {
+            if answer.0 == 0 {
+                Verdict::Late(at)
+            } else {
+                Verdict::Schedulable
+            }
+        }
+        Verdict::Late(first) => Verdict::Late(first),
+    }
+}
+
+// Answers and rounds of the n tasks, each from its cost and blocking on.
+pub fn answer_all(
+    priorities: &[u8],
+    periods: &[u32],
+    costs: &[u32],
+    deadlines: &[u32],
+    jitters: &[u32],
+    n: usize,
+    owners: &[u8],
+    tops: &[u8],
+    longest: &[u32],
+    m: usize,
+    answers: &mut [u32],
+    rounds: &mut [u32],
+) -> Verdict
+    requires { ⌜ DecodedFits (decoded (now priorities) (now periods) (now costs) (now deadlines) (now jitters) (now owners) (now tops) (now longest) m) n ⌝ }
+    requires { ⌜ (n ≤ length (now answers)) × (n ≤ length (now rounds)) ⌝ }
+    ensures { λ r. ⌜ Answered (decoded (now (priorities .entry)) (now (periods .entry)) (now (costs .entry)) (now (deadlines .entry)) (now (jitters .entry)) (now (owners .entry)) (now (tops .entry)) (now (longest .entry)) m) n r (now (answers .entry)) (now (answers .exit)) (now (rounds .entry)) (now (rounds .exit)) ⌝ }
+{
+    let mut verdict = Verdict::Schedulable;
+    for i in 0..n {
+        let held = blocking(owners, tops, longest, m, Priority(priorities[i]));
+        let base = Ticks(costs[i] + held.0);
+        let solved = solve(
+            periods,
+            costs,
+            jitters,
+            i,
+            base,
+            base,
+            Ticks(jitters[i]),
+            Ticks(deadlines[i]),
+        );
+        answers[i] = solved.response.0;
+        rounds[i] = solved.rounds;
+        verdict = with_answer(verdict, solved.response, Place(i));
+    }
+    verdict
+}

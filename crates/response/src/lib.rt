@@ -1,0 +1,51 @@
+// The public entry: the bytes of one table and two lent slices in, a verdict out, answers and rounds in the slices.
+ghost use mathlib.Core.Path.{_≡_};
+ghost use Rattle.response.specs.Verdicts.{codeOf, verdictPlace};
+ghost use Rattle.response.specs.Outcome.{Outcome};
+use model::Place;
+use tables::Check;
+use tables::Refusal;
+
+pub mod answering;
+pub mod stages;
+
+// What is said of a table.
+pub enum Verdict {
+    Refused(Refusal),
+    Schedulable,
+    Late(Place),
+}
+
+// The refusal's number; 0 for schedulable, 255 for late.
+pub fn code(verdict: Verdict) -> u32
+    ensures { λ r. ⌜ r ≡ codeOf verdict ⌝ }
+{
+    match verdict {
+        Verdict::Refused(refusal) => tables::number(refusal),
+        Verdict::Schedulable => 0,
+        Verdict::Late(_) => 255,
+    }
+}
+
+// The refusal's place, or the first late place.
+pub fn place(verdict: Verdict) -> usize
+    ensures { λ r. ⌜ r ≡ verdictPlace verdict ⌝ }
+{
+    match verdict {
+        Verdict::Refused(refusal) => tables::place(refusal),
+        Verdict::Schedulable => 0,
+        Verdict::Late(at) => at.0,
+    }
+}
+
+// Any bytes and any slices get a verdict. A refusal changes no word; otherwise words 0 to n - 1 of `answers` and `rounds` are
+// written, and later words stay.
+pub fn analyse(table: &[u8], answers: &mut [u32], rounds: &mut [u32]) -> Verdict
+    ensures { λ r. ⌜ Outcome (now (table .entry)) (now (answers .entry)) (now (rounds .entry)) r (now (answers .exit)) (now (rounds .exit)) ⌝ }
+{
+    let checked = tables::head::check(table);
+    match checked {
+        Check::Clean => stages::after_head(table, answers, rounds),
+        Check::Refused(refusal) => Verdict::Refused(refusal),
+    }
+}

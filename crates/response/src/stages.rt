@@ -1,0 +1,145 @@
+// The stages behind a right head: the records, the rows, then the answers. Each refuses before a word is written.
+ghost use mathlib.Core.Path.{_≡_};
+ghost use Prim.Native.Nat.{_≤_};
+ghost use lib.ListN.{length};
+ghost use Rattle.tables.specs.declared.Check.the-variants as check;
+ghost use Rattle.tables.specs.Checks.{headCheck};
+ghost use Rattle.response.specs.Outcome.{Outcome};
+ghost use Rattle.response.specs.Stages.{RecordsHeld, RowsRead};
+use crate::Verdict;
+use crate::answering::answer_all;
+use tables::Check;
+use tables::Refusal;
+use tables::fields::count;
+
+// The head is right: reads the records.
+pub fn after_head(table: &[u8], answers: &mut [u32], rounds: &mut [u32]) -> Verdict
+    requires { ⌜ headCheck (now table) ≡ check.Clean ⌝ }
+    ensures { λ r. ⌜ Outcome (now (table .entry)) (now (answers .entry)) (now (rounds .entry)) r (now (answers .exit)) (now (rounds .exit)) ⌝ }
+{
+    let n = count(table[3]);
+    let mut priorities = [0u8; 32];
+    let mut periods = [0u32; 32];
+    let mut costs = [0u32; 32];
+    let mut deadlines = [0u32; 32];
+    let mut jitters = [0u32; 32];
+    let checked = tables::records::read_all(
+        table,
+        n,
+        &mut priorities,
+        &mut periods,
+        &mut costs,
+        &mut deadlines,
+        &mut jitters,
+    );
+    match checked {
+        Check::Clean => after_records(
+            table,
+            n,
+            &priorities,
+            &periods,
+            &costs,
+            &deadlines,
+            &jitters,
+            answers,
+            rounds,
+        ),
+        Check::Refused(refusal) => Verdict::Refused(refusal),
+    }
+}
+
+// The records are right: reads the rows, then looks at the room.
+pub fn after_records(
+    table: &[u8],
+    n: usize,
+    priorities: &[u8],
+    periods: &[u32],
+    costs: &[u32],
+    deadlines: &[u32],
+    jitters: &[u32],
+    answers: &mut [u32],
+    rounds: &mut [u32],
+) -> Verdict
+    requires { ⌜ RecordsHeld (now table) n (now priorities) (now periods) (now costs) (now deadlines) (now jitters) ⌝ }
+    ensures { λ r. ⌜ Outcome (now (table .entry)) (now (answers .entry)) (now (rounds .entry)) r (now (answers .exit)) (now (rounds .exit)) ⌝ }
+{
+    let m = count(table[4]);
+    let mut places = [0u8; 64];
+    let mut semaphores = [0u8; 64];
+    let mut longest = [0u32; 64];
+    let checked = tables::rows::read_all(
+        table,
+        n,
+        m,
+        costs,
+        &mut places,
+        &mut semaphores,
+        &mut longest,
+    );
+    match checked {
+        Check::Clean => {
+            if answers.len() < n {
+                return Verdict::Refused(Refusal::NoRoom);
+            }
+            if rounds.len() < n {
+                return Verdict::Refused(Refusal::NoRoom);
+            }
+            after_rows(
+                table,
+                priorities,
+                periods,
+                costs,
+                deadlines,
+                jitters,
+                n,
+                &places,
+                &semaphores,
+                &longest,
+                m,
+                answers,
+                rounds,
+            )
+        }
+        Check::Refused(refusal) => Verdict::Refused(refusal),
+    }
+}
+
+// The table is accepted: finds the ceilings once, then answers.
+pub fn after_rows(
+    table: &[u8],
+    priorities: &[u8],
+    periods: &[u32],
+    costs: &[u32],
+    deadlines: &[u32],
+    jitters: &[u32],
+    n: usize,
+    places: &[u8],
+    semaphores: &[u8],
+    longest: &[u32],
+    m: usize,
+    answers: &mut [u32],
+    rounds: &mut [u32],
+) -> Verdict
+    requires { ⌜ RecordsHeld (now table) n (now priorities) (now periods) (now costs) (now deadlines) (now jitters) ⌝ }
+    requires { ⌜ RowsRead (now table) m (now places) (now semaphores) (now longest) ⌝ }
+    requires { ⌜ (n ≤ length (now answers)) × (n ≤ length (now rounds)) ⌝ }
+    ensures { λ r. ⌜ Outcome (now (table .entry)) (now (answers .entry)) (now (rounds .entry)) r (now (answers .exit)) (now (rounds .exit)) ⌝ }
+{
+    let mut owners = [0u8; 64];
+    let mut tops = [0u8; 64];
+    blocking::spans(priorities, places, semaphores, m, &mut owners, &mut tops);
+    answer_all(
+        priorities,
+        periods,
+        costs,
+        deadlines,
+        jitters,
+        n,
+        &owners,
+        &tops,
+        longest,
+        m,
+        answers,
+        rounds,
+    )
+}
