@@ -3,3 +3,4 @@ pub mod TableLaws
 pub mod DecodedLaws
 pub mod OutcomeLaws
 pub mod StageLaws
+pub mod PlaceLaws

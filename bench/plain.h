@@ -1,0 +1,14 @@
+/* plain.h: the analysis of document 01 in plain C, to test and to measure against. */
+#ifndef PLAIN_H
+#define PLAIN_H
+
+#include <stddef.h>
+#include <stdint.h>
+
+/* The verdict is code * 4294967296 + place: code 0 is schedulable, 1 to 8 refused with that
+ * number, 255 late. */
+uint64_t plain_analyse(const uint8_t *table, size_t table_len,
+                       uint32_t *answers, size_t answers_len,
+                       uint32_t *rounds, size_t rounds_len);
+
+#endif

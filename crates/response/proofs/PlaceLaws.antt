@@ -1,0 +1,71 @@
+-- Every place that a verdict names is one of the table: below 64.
+-- Assumes nothing.
+use Prim.Native.Nat.{ℕ, _+_, _*_, _≤_, _<_}
+use native.Mathlib.Omega.{arith}
+use mathlib.Core.Path.{_≡_, refl, sym, _∙_, ap, subst}
+use mathlib.Core.Bool.{Bool, true, false}
+use mathlib.Core.List.{List}
+use mathlib.Core.Logic.{_⊎_, inl, inr}
+use lib.Dec.{eqb}
+use Rattle.model.specs.Search.{firstOf}
+use Rattle.model.proofs.Tests.{bool?, clash}
+use Rattle.model.proofs.First as first-laws
+use Rattle.tables.specs.declared.Refusal.{Refusal}
+use Rattle.tables.specs.declared.Refusal.the-variants.{TooShort, UnknownVersion, CountOutOfRange, LengthsDiffer, NumberOutOfRange, PriorityOutOfOrder, SectionRow, NoRoom}
+use Rattle.tables.specs.declared.Check.{Check}
+use Rattle.tables.specs.declared.Check.the-variants as check
+use Rattle.tables.specs.Layout.{taskCount, tableOf}
+use Rattle.tables.specs.Refusals.{at, placeOf}
+use Rattle.tables.specs.Checks.{tableCheck}
+use Rattle.tables.specs.Meaning.{Deserved}
+use Rattle.tables.proofs.CheckLaws.{table-deserved, table-right}
+use Rattle.response.specs.declared.Verdict.{Verdict}
+use Rattle.response.specs.declared.Verdict.the-variants as verdict
+use Rattle.response.specs.Verdicts.{verdictPlace, isSchedulable}
+use Rattle.response.specs.Analysis.{answerOf}
+use Rattle.response.specs.Outcome.{lateIf, lateAt, resultOf, verdictFor, verdictOf}
+
+refusal-place : (bytes : List ℕ) (answers rounds : ℕ) (r : Refusal) → Deserved bytes answers rounds r → placeOf r < 256
+refusal-place bytes answers rounds TooShort d = omega arith
+refusal-place bytes answers rounds UnknownVersion d = omega arith
+refusal-place bytes answers rounds CountOutOfRange d = omega arith
+refusal-place bytes answers rounds LengthsDiffer d = omega arith
+refusal-place bytes answers rounds (NumberOutOfRange i) d = omega (arith, d .1, d .0 .counts .tasksHigh)
+refusal-place bytes answers rounds (PriorityOutOfOrder i) d = omega (arith, d .1, d .0 .counts .tasksHigh)
+refusal-place bytes answers rounds (SectionRow k) d = omega (arith, d .2, d .0 .counts .rowsHigh)
+refusal-place bytes answers rounds NoRoom d = omega arith
+
+pub schedulable-only : (v : Verdict) → isSchedulable v ≡ true → v ≡ verdict.Schedulable
+schedulable-only (verdict.Refused r) p = absurd (clash false p refl)
+schedulable-only verdict.Schedulable p = refl
+schedulable-only (verdict.Late i) p = absurd (clash false p refl)
+
+late-place : (answer i : ℕ) → verdictPlace (lateIf answer (at i)) ≤ i
+late-place answer i =
+    elim (bool? (eqb answer 0)) [
+      | inl p ↦ rw p (omega arith)
+      | inr p ↦ rw p (omega arith)
+    ]
+
+-- the place of a result is that of a task
+pub result-place : (answers : ℕ → ℕ) (n : ℕ) → verdictPlace (resultOf answers n) ≤ n
+result-place answers n =
+    elim (bool? (isSchedulable (resultOf answers n))) [
+      | inl p ↦ rw (schedulable-only (resultOf answers n) p) (omega arith)
+      | inr p ↦
+          let g = first-laws.first-found isSchedulable verdict.Schedulable refl (lateAt answers) schedulable-only n p in
+          rw (g .2) (omega (arith, late-place (answers (g .0)) (g .0), g .1))
+    ]
+
+pub verdict-place : (bytes : List ℕ) (answers rounds : ℕ) → verdictPlace (verdictOf bytes answers rounds) < 256
+unfolding verdictOf
+verdict-place bytes answers rounds = go (tableCheck bytes answers rounds) refl
+  where
+    go : (c : Check) → tableCheck bytes answers rounds ≡ c → verdictPlace (verdictFor c (resultOf (answerOf (tableOf bytes)) (taskCount bytes))) < 256
+    go check.Clean e =
+        omega (
+          arith,
+          result-place (answerOf (tableOf bytes)) (taskCount bytes),
+          table-right bytes answers rounds e .0 .head .counts .tasksHigh,
+        )
+    go (check.Refused r) e = refusal-place bytes answers rounds r (table-deserved bytes answers rounds r e)

@@ -1,0 +1,96 @@
+/* ulmerascio.h: the schedulability analysis of document 01, for programs in C and C++.
+ *
+ * The analysis takes the bytes of one task table and two lent slices of 32-bit words. It fills
+ * in each task's longest response time and the rounds spent on it, and says whether every task
+ * meets its deadline. It covers one processor, preemptive fixed priorities, whole ticks and
+ * sporadic tasks.
+ */
+#ifndef ULMERASCIO_H
+#define ULMERASCIO_H
+
+#include <stddef.h>
+#include <stdint.h>
+
+#ifdef __cplusplus
+extern "C" {
+#endif
+
+/* Limits of version 1 of the table's form. */
+#define ULMERASCIO_MOST_TASKS 32
+#define ULMERASCIO_LONGEST_TABLE 933
+
+/* Why a table was refused. They are tested in this order, except that 5 and 6 take turns record
+ * by record; the first that applies is given, and only when it applies. */
+enum ulmerascio_refusal_number {
+    ULMERASCIO_REFUSED_SHORT = 1,    /* fewer than 5 bytes; place 0 */
+    ULMERASCIO_REFUSED_VERSION = 2,  /* byte 0 is not 1; place 0 */
+    ULMERASCIO_REFUSED_COUNTS = 3,   /* n is not 1 to 32, or m is not 0 to 64; place 0 */
+    ULMERASCIO_REFUSED_LENGTH = 4,   /* stated length, table_len and 5 + 17n + 6m are not all
+                                      * equal; place 0 */
+    ULMERASCIO_REFUSED_NUMBERS = 5,  /* T, C, D or J out of range; place of the task */
+    ULMERASCIO_REFUSED_PRIORITY = 6, /* priority 0, or not below the record before; place of the
+                                      * task */
+    ULMERASCIO_REFUSED_ROW = 7,      /* a section row breaks a rule; place of the row */
+    ULMERASCIO_REFUSED_SLICES = 8    /* a slice has fewer than n words; place 0 */
+};
+
+/* Analyses the table of table_len bytes at table.
+ *
+ * The verdict is code * 4294967296 + place, so that its high 32 bits are the code and its low 32
+ * bits the place:
+ *
+ *     code 0         every task meets its deadline; the place is 0
+ *     code 1 to 8    the table is refused, with that number of the list above, at the place
+ *     code 255       late; the place is the first one whose answer is 0
+ *
+ * The functions below take it apart.
+ *
+ * If the table is not refused, and n is its number of tasks, words 0 to n - 1 of answers get the
+ * tasks' longest response times in ticks, 0 for a task that may miss its deadline, and words 0
+ * to n - 1 of rounds get the rounds spent on them. Later words of both slices stay as they were.
+ * If the table is refused, no word of either slice is changed.
+ *
+ * answers_len and rounds_len are counted in words. Each pointer must be good for its length:
+ * table for reading table_len bytes, answers and rounds for reading and writing answers_len and
+ * rounds_len words, and both aligned for a word. No pointer may be null, even where its length
+ * is 0. The three ranges must not overlap.
+ */
+uint64_t ulmerascio_analyse(const uint8_t *table, size_t table_len,
+                            uint32_t *answers, size_t answers_len,
+                            uint32_t *rounds, size_t rounds_len);
+
+/* 1 if every task meets its deadline, else 0. */
+static inline int ulmerascio_is_schedulable(uint64_t verdict)
+{
+    return verdict >> 32 == 0;
+}
+
+/* 1 if some task may miss its deadline, else 0. */
+static inline int ulmerascio_is_late(uint64_t verdict)
+{
+    return verdict >> 32 == 255;
+}
+
+/* 1 if the table was refused, else 0. */
+static inline int ulmerascio_is_refused(uint64_t verdict)
+{
+    return verdict >> 32 >= 1 && verdict >> 32 <= 8;
+}
+
+/* The number of the refusal, 1 to 8, or 0 if the table was not refused. */
+static inline int ulmerascio_refusal(uint64_t verdict)
+{
+    return ulmerascio_is_refused(verdict) ? (int)(verdict >> 32) : 0;
+}
+
+/* The place of a refusal, or of the first late task; 0 if the table is schedulable. */
+static inline uint32_t ulmerascio_place(uint64_t verdict)
+{
+    return (uint32_t)(verdict & 0xFFFFFFFFu);
+}
+
+#ifdef __cplusplus
+}
+#endif
+
+#endif

@@ -1,0 +1,1415 @@
+#!/usr/bin/env python3
+"""A second opinion on task tables, written from document 01 alone.
+
+It shares no code and no idea of a quick way with the library: it reads the bytes
+as document 01 lays them out, looks for each task's answer by search, and plays
+runs tick by tick. Sentences in double quotation marks are document 01's.
+
+Needs Python 3.7 or later and nothing else.
+"""
+
+import argparse
+import collections
+import itertools
+import os
+import sys
+
+# ---------------------------------------------------------------------------
+# The table's bytes: "house form, version 1"
+# ---------------------------------------------------------------------------
+
+VERSION = 1
+HEADER_BYTES = 5
+TASK_BYTES = 17
+ROW_BYTES = 6
+MOST_TASKS = 32
+MOST_ROWS = 64
+GREATEST_TICKS = 1000000
+GREATEST_PRIORITY = 255
+GREATEST_SEMAPHORE = 16
+GREATEST_WORD = 2 ** 32 - 1
+LONGEST_TABLE = HEADER_BYTES + TASK_BYTES * MOST_TASKS + ROW_BYTES * MOST_ROWS
+# "The program takes at most one byte more than the longest table, so 934 here".
+MOST_BYTES_TAKEN = LONGEST_TABLE + 1
+# Every lent word holds this before a call, so that a word that stays can be seen to stay.
+FILLER = 0xA5A5A5A5
+LONGEST_SLICE = 40
+
+Task = collections.namedtuple("Task", "priority period cost deadline jitter")
+Row = collections.namedtuple("Row", "place semaphore length")
+Outcome = collections.namedtuple("Outcome", "response rounds")
+
+
+class Refused(Exception):
+    """A refusal: "returns the number and the place, and changes no word"."""
+
+    def __init__(self, number, place):
+        super().__init__("refused %d at %d" % (number, place))
+        self.number = number
+        self.place = place
+
+
+def refuse_when(applies, number, place=0):
+    if applies:
+        raise Refused(number, place)
+
+
+def big_endian(data):
+    # "All numbers are unsigned and big-endian."
+    return int.from_bytes(data, "big")
+
+
+def table_length(task_count, row_count):
+    # "The length is 5 + 17n + 6m".
+    return HEADER_BYTES + TASK_BYTES * task_count + ROW_BYTES * row_count
+
+
+def read_task(data, place):
+    # "priority (1 byte), period T, cost C, deadline D, jitter J (4 bytes each)".
+    start = HEADER_BYTES + TASK_BYTES * place
+    record = data[start:start + TASK_BYTES]
+    numbers = [big_endian(record[at:at + 4]) for at in (1, 5, 9, 13)]
+    return Task(record[0], *numbers)
+
+
+def read_row(data, task_count, place):
+    # "task place (1), semaphore (1), longest section (4)".
+    start = HEADER_BYTES + TASK_BYTES * task_count + ROW_BYTES * place
+    record = data[start:start + ROW_BYTES]
+    return Row(record[0], record[1], big_endian(record[2:6]))
+
+
+def numbers_in_range(task):
+    # "T and C are 1 to 1,000,000. D is 1 to T. J is 0 to 1,000,000."
+    return (1 <= task.period <= GREATEST_TICKS
+            and 1 <= task.cost <= GREATEST_TICKS
+            and 1 <= task.deadline <= task.period
+            and 0 <= task.jitter <= GREATEST_TICKS)
+
+
+def row_in_range(row, tasks):
+    # "A section row names a place 0 to n-1, a semaphore 1 to 16 and a length 1 to that
+    # task's C."
+    return (row.place < len(tasks)
+            and 1 <= row.semaphore <= GREATEST_SEMAPHORE
+            and 1 <= row.length <= tasks[row.place].cost)
+
+
+def check_header(data):
+    """Refusals 1 to 4; gives n and m."""
+    refuse_when(len(data) < HEADER_BYTES, 1)
+    refuse_when(data[0] != VERSION, 2)
+    task_count, row_count = data[3], data[4]
+    refuse_when(not 1 <= task_count <= MOST_TASKS or row_count > MOST_ROWS, 3)
+    lengths = {big_endian(data[1:3]), len(data), table_length(task_count, row_count)}
+    refuse_when(len(lengths) != 1, 4)
+    return task_count, row_count
+
+
+def check_tasks(tasks):
+    # "Task records are taken in order, each tested for 5 and then 6".
+    for place, task in enumerate(tasks):
+        refuse_when(not numbers_in_range(task), 5, place)
+        # "Priorities are 1 to 255 and strictly fall from each record to the next."
+        not_below = place > 0 and task.priority >= tasks[place - 1].priority
+        refuse_when(task.priority == 0 or not_below, 6, place)
+
+
+def check_rows(rows, tasks):
+    # "then the rows in order for 7": each within its ranges, and "Rows strictly rise by
+    # place, then semaphore."
+    for place, row in enumerate(rows):
+        refuse_when(not row_in_range(row, tasks), 7, place)
+        not_above = place > 0 and row[:2] <= rows[place - 1][:2]
+        refuse_when(not_above, 7, place)
+
+
+def read_table(data, answers_length, rounds_length):
+    """Gives the tasks and the rows, or raises the first refusal that applies."""
+    task_count, row_count = check_header(data)
+    tasks = [read_task(data, place) for place in range(task_count)]
+    check_tasks(tasks)
+    rows = [read_row(data, task_count, place) for place in range(row_count)]
+    check_rows(rows, tasks)
+    # "an answer slice has fewer than n words"
+    refuse_when(min(answers_length, rounds_length) < task_count, 8)
+    return tasks, rows
+
+
+# ---------------------------------------------------------------------------
+# The equation
+# ---------------------------------------------------------------------------
+
+def ceiling_of(semaphore, tasks, rows):
+    # "a semaphore's ceiling is the most urgent priority among tasks with a row for it".
+    return max(tasks[row.place].priority for row in rows if row.semaphore == semaphore)
+
+
+def blocking_of(task, tasks, rows):
+    # "B of task i is the longest section among rows of less urgent tasks whose semaphore's
+    # ceiling is at least i's priority, and 0 if there is none."
+    sections = [row.length for row in rows
+                if tasks[row.place].priority < task.priority
+                and ceiling_of(row.semaphore, tasks, rows) >= task.priority]
+    return max(sections, default=0)
+
+
+def more_urgent_than(task, tasks):
+    # "A larger priority number is more urgent".
+    return [other for other in tasks if other.priority > task.priority]
+
+
+def rounded_up(number, divisor):
+    return -(-number // divisor)
+
+
+def demand(base, urgent_tasks, window):
+    # "demand(i, w) is C_i + B_i plus, over every more urgent j, C_j times (w + J_j) / T_j
+    # rounded up"; the base is C_i + B_i.
+    total = base
+    for urgent in urgent_tasks:
+        total += urgent.cost * rounded_up(window + urgent.jitter, urgent.period)
+    return total
+
+
+def plain_search(base, urgent_tasks, last):
+    # "The task's w is the smallest whole number of at least 1 with demand(i, w) = w": every
+    # number from 1 to the last is tried. None if none of them is a solution.
+    for window in range(1, last + 1):
+        if demand(base, urgent_tasks, window) == window:
+            return window
+    return None
+
+
+def skipping_search(base, urgent_tasks, last):
+    """The same search, leaving out only numbers that cannot be solutions.
+
+    A longer window never has a smaller demand. So when demand(w) > w, every v from w to
+    demand(w) - 1 has demand(v) >= demand(w) > v, and the search goes on at demand(w).
+    """
+    window = 1
+    while window <= last:
+        wanted = demand(base, urgent_tasks, window)
+        if wanted == window:
+            return window
+        window = wanted if wanted > window else window + 1
+    return None
+
+
+def response_of(task, window):
+    # "Its answer is w + J_i if such a w exists and w + J_i <= D_i; else 0." A solution above
+    # D_i gives 0 as none does, so that both searches may end at D_i.
+    if window is None or window + task.jitter > task.deadline:
+        return 0
+    return window + task.jitter
+
+
+def count_rounds(task, base, urgent_tasks):
+    # "x0 = C_i + B_i, and each next x is demand(i, x). Rounds is the smallest k >= 1 with
+    # x_k = x_(k-1) or x_k + J_i > D_i."
+    rounds, before = 1, base
+    after = demand(base, urgent_tasks, before)
+    while after != before and after + task.jitter <= task.deadline:
+        rounds, before = rounds + 1, after
+        after = demand(base, urgent_tasks, before)
+    return rounds
+
+
+def outcome_of(task, tasks, rows):
+    base = task.cost + blocking_of(task, tasks, rows)
+    urgent_tasks = more_urgent_than(task, tasks)
+    window = skipping_search(base, urgent_tasks, task.deadline)
+    return Outcome(response_of(task, window), count_rounds(task, base, urgent_tasks))
+
+
+def outcomes_of(tasks, rows):
+    return [outcome_of(task, tasks, rows) for task in tasks]
+
+
+# ---------------------------------------------------------------------------
+# The program's text
+# ---------------------------------------------------------------------------
+
+def task_line(place, task, outcome):
+    word = "response %d" % outcome.response if outcome.response else "late"
+    return "%d %s deadline %d rounds %d" % (place, word, task.deadline, outcome.rounds)
+
+
+def verdict_line(outcomes):
+    # Document 01: "schedulable" or "late" with the first place whose answer is 0.
+    late_places = [place for place, outcome in enumerate(outcomes) if outcome.response == 0]
+    return "late %d" % late_places[0] if late_places else "schedulable"
+
+
+def text_of(data, answers_length=MOST_TASKS, rounds_length=MOST_TASKS):
+    """What the program prints for these bytes; each line ends with a newline."""
+    try:
+        tasks, rows = read_table(data, answers_length, rounds_length)
+    except Refused as refusal:
+        return "%s\n" % refusal
+    outcomes = outcomes_of(tasks, rows)
+    lines = ["tasks %d" % len(tasks)]
+    lines += [task_line(place, task, outcome)
+              for place, (task, outcome) in enumerate(zip(tasks, outcomes))]
+    lines.append(verdict_line(outcomes))
+    return "".join(line + "\n" for line in lines)
+
+
+# ---------------------------------------------------------------------------
+# Writing tables
+# ---------------------------------------------------------------------------
+
+def task_bytes(task):
+    numbers = (task.period, task.cost, task.deadline, task.jitter)
+    return bytes([task.priority]) + b"".join(number.to_bytes(4, "big") for number in numbers)
+
+
+def row_bytes(row):
+    return bytes([row.place, row.semaphore]) + row.length.to_bytes(4, "big")
+
+
+class Draft:
+    """A table being written, which may be given faults before its bytes are taken."""
+
+    def __init__(self, tasks, rows=()):
+        self.version = VERSION
+        self.tasks = list(tasks)
+        self.rows = list(rows)
+        self.task_count = len(self.tasks)
+        self.row_count = len(self.rows)
+        self.stated_length = table_length(self.task_count, self.row_count)
+        self.lent_length = self.stated_length
+
+    def change_task(self, number, **changes):
+        self.tasks[number] = self.tasks[number]._replace(**changes)
+
+    def change_row(self, number, **changes):
+        self.rows[number] = self.rows[number]._replace(**changes)
+
+    def data(self):
+        written = (bytes([self.version]) + self.stated_length.to_bytes(2, "big")
+                   + bytes([self.task_count, self.row_count])
+                   + b"".join(task_bytes(task) for task in self.tasks)
+                   + b"".join(row_bytes(row) for row in self.rows))
+        return written[:self.lent_length].ljust(self.lent_length, b"\x00")
+
+
+def listed(*entries):
+    """Tasks from (T, C, D) or (T, C, D, J), the priorities falling down the list."""
+    count = len(entries)
+    return [Task(count - place, entry[0], entry[1], entry[2], (entry + (0,))[3])
+            for place, entry in enumerate(entries)]
+
+
+def listed_rows(*entries):
+    return [Row(*entry) for entry in entries]
+
+
+# ---------------------------------------------------------------------------
+# Document 01's worked tables, in its order
+# ---------------------------------------------------------------------------
+
+Worked = collections.namedtuple("Worked", "tasks rows responses rounds blocking")
+
+
+def worked(tasks, responses, rows=(), rounds=None, blocking=None):
+    """Rounds and blocking are None where document 01 prints none."""
+    return Worked(listed(*tasks), listed_rows(*rows), responses, rounds, blocking)
+
+
+FIFTH = ((4, 1, 4), (6, 2, 6), (10, 3, 10))
+SECTIONS = ((10, 2, 5), (20, 3, 12), (40, 10, 40), (100, 4, 50))
+SECTION_ROWS = ((1, 1, 1), (1, 2, 1), (2, 2, 5), (3, 1, 2))
+
+WORKED_TABLES = [
+    worked([(1, 1, 1)], [1]),
+    worked([(9, 5, 5)], [5]),
+    worked([(9, 6, 5)], [0]),
+    worked([(2, 1, 2), (6, 3, 6)], [1, 6]),
+    worked(FIFTH, [1, 3, 10], rounds=[1, 2, 5]),
+    worked([(3, 1, 3), (5, 1, 5), (6, 1, 6), (10, 2, 10)], [1, 2, 3, 9]),
+    worked([(10, 1, 3), (6, 2, 4), (5, 1, 5)], [1, 3, 4]),
+    worked([(5, 1, 5), (6, 2, 4), (10, 1, 3)], [1, 3, 0]),
+    worked([(6, 4, 6), (12, 4, 12)], [4, 12]),
+    worked([(6, 3, 6), (12, 8, 12)], [3, 0]),
+    worked([(30, 10, 20, 10), (1000, 15, 25)], [20, 0], rounds=[1, 2]),
+    worked([(30, 10, 20), (1000, 15, 25)], [10, 25]),
+    worked(SECTIONS, [2, 10, 19, 26], rows=SECTION_ROWS, blocking=[0, 5, 2, 0]),
+    worked([(40, 12, 40), (50, 6, 50), (100, 10, 100)], [13, 19, 28],
+           rows=((0, 1, 2), (0, 2, 1), (1, 1, 1), (2, 1, 1)), blocking=[1, 1, 0]),
+    worked([(1, 1, 1), (1000000, 1, 1000000)], [1, 0], rounds=[1, 1000000]),
+]
+
+FIFTH_TEXT = """tasks 3
+0 response 1 deadline 4 rounds 1
+1 response 3 deadline 6 rounds 2
+2 response 10 deadline 10 rounds 5
+schedulable
+"""
+
+LATE_TEXT = """tasks 2
+0 response 20 deadline 20 rounds 1
+1 late deadline 25 rounds 2
+late 1
+"""
+
+
+def edge_tables():
+    """Document 01's "Edges", each with the text it must get (None: any answer but a refusal)."""
+    fifth = Draft(listed(*FIFTH)).data()
+    yield fifth[:4], "refused 1 at 0\n"
+    yield b"", "refused 1 at 0\n"
+    yield bytes([1, 0, 5, 33, 0]), "refused 3 at 0\n"
+    yield Draft(listed(*[(100, 1, 100)] * 33)).data(), "refused 3 at 0\n"
+    yield Draft(listed((4, 1, 4), (6, 2, 6), (10, 3, 10))).data(), None
+    for place in range(3):
+        draft = Draft(listed(*FIFTH))
+        draft.change_task(place, deadline=draft.tasks[place].period + 1)
+        yield draft.data(), "refused 5 at %d\n" % place
+    for place, row in enumerate(SECTION_ROWS):
+        cost = SECTIONS[row[0]][1]
+        draft = Draft(listed(*SECTIONS), listed_rows(*SECTION_ROWS))
+        draft.change_row(place, length=cost)
+        yield draft.data(), None
+        draft.change_row(place, length=cost + 1)
+        yield draft.data(), "refused 7 at %d\n" % place
+    yield from order_edges()
+
+
+def order_edges():
+    # "two errors give the earlier check", also across 5 and 6, which "alternate record by
+    # record".
+    draft = Draft(listed(*FIFTH))
+    draft.change_task(0, priority=0)
+    draft.change_task(1, period=0)
+    yield draft.data(), "refused 6 at 0\n"
+    draft.change_task(0, cost=0)
+    yield draft.data(), "refused 5 at 0\n"
+    draft.lent_length += 1
+    yield draft.data(), "refused 4 at 0\n"
+    draft.row_count = 65
+    yield draft.data(), "refused 3 at 0\n"
+    draft.version = 2
+    yield draft.data(), "refused 2 at 0\n"
+    draft.lent_length = 4
+    yield draft.data(), "refused 1 at 0\n"
+
+
+# ---------------------------------------------------------------------------
+# The task sets of the source documents 000 to 004
+# ---------------------------------------------------------------------------
+
+# Sets given in rate monotonic or stated priority order, with the responses where the source
+# prints them. Sets that document 01 already lists are left out.
+SOURCE_TABLES = [
+    # 000: critical instant; no offsets; the offset example with all tasks released together.
+    worked([(4, 1, 4), (20, 10, 20)], None),
+    worked([(10, 1, 10), (10, 2, 10), (10, 1, 10)], None),
+    worked([(10, 2, 10), (10, 1, 10), (10, 2, 10), (10, 1, 10), (20, 5, 20)], None),
+    # 000: the blocking example (it gives no periods or costs; these are made up).
+    worked([(100, 5, 100), (100, 5, 100), (100, 5, 100), (100, 5, 100)], None,
+           rows=((0, 2, 4), (1, 1, 2), (2, 2, 3), (3, 1, 1)), blocking=[3, 3, 1, 0]),
+    # 000: the safe assumption about the critical instant with jitter.
+    worked([(5, 3, 5, 3), (50, 4, 50)], None),
+    # 001: the example, with the second deadline as printed (above its period) and cut to it.
+    worked([(20, 10, 20), (10, 5, 20)], None),
+    worked([(20, 10, 20), (10, 5, 10)], [10, 0]),
+    # 001: exercise 2, as printed and with the last deadline cut to the period.
+    worked([(30, 5, 30), (20, 5, 20), (15, 5, 20)], None),
+    worked([(30, 5, 30), (20, 5, 20), (15, 5, 15)], None),
+    # 003: the earliest deadline first example, under fixed priorities.
+    worked([(6, 3, 4), (8, 4, 7)], None),
+    # 004: assignment 1, then 1.3, 1.4 and 1.6.
+    worked([(10, 2, 10), (15, 4, 15), (35, 10, 35)], None),
+    worked([(10, 5, 10), (15, 4, 15), (35, 10, 35)], None),
+    worked([(10, 2, 10), (15, 4, 15), (35, 17, 35)], None),
+    worked([(10, 2, 10), (15, 4, 15), (35, 10, 15)], None),
+    # 004: assignment 3.1 (no sections) and 3.2 (one semaphore; here under priority ceiling).
+    worked(SECTIONS, None),
+    worked(SECTIONS, None, rows=((1, 1, 1), (3, 1, 2))),
+    # 004: assignment 4.1 to 4.3, with the jitters that varying responses give.
+    worked([(10, 3, 10), (10, 2, 10)], None),
+    worked([(10, 5, 10), (10, 2, 10, 2)], None),
+    worked([(20, 2, 20), (10, 5, 10), (10, 2, 10, 4)], None),
+    # 004: assignment 4.4 (no jitter) and 4.5.
+    worked([(20, 5, 10), (50, 30, 50)], None),
+    worked([(20, 5, 10, 5), (50, 30, 50, 10)], None),
+]
+
+# 002's sets, taken in both orders; its (350, 10) needs cost 100 for the printed utilisation.
+TWO_ORDER_SETS = [
+    ((2, 1, 2), (5, 2, 4)),
+    ((10, 1, 3), (6, 2, 4), (5, 1, 5)),
+    ((6, 3, 6), (12, 8, 12)),
+    ((6, 1, 6), (12, 2, 12)),
+    ((6, 4, 6), (12, 4, 12)),
+    ((100, 20, 100), (150, 40, 150), (350, 100, 350)),
+    ((7, 3, 7), (12, 3, 12), (20, 5, 20)),
+]
+
+# 004's assignment 2 asks for several priority orders of these; all are taken.
+ASSIGNMENT_TWO = ((20, 2, 6), (7, 3, 7), (14, 5, 13), (100, 4, 60))
+
+
+def orders_of(entries):
+    if not entries:
+        yield ()
+    for place, entry in enumerate(entries):
+        for rest in orders_of(entries[:place] + entries[place + 1:]):
+            yield (entry,) + rest
+
+
+def source_tables():
+    for table in SOURCE_TABLES:
+        yield Draft(table.tasks, table.rows).data()
+    for entries in TWO_ORDER_SETS:
+        yield Draft(listed(*entries)).data()
+        yield Draft(listed(*reversed(entries))).data()
+    for entries in orders_of(ASSIGNMENT_TWO):
+        yield Draft(listed(*entries)).data()
+    # 004's assignment 2.3 gives two tasks one priority, which document 01 refuses.
+    draft = Draft(listed(*ASSIGNMENT_TWO))
+    draft.change_task(2, priority=draft.tasks[1].priority)
+    yield draft.data()
+
+
+# ---------------------------------------------------------------------------
+# Made tables
+# ---------------------------------------------------------------------------
+
+Entry = collections.namedtuple("Entry", "table answers_length rounds_length")
+
+# A made table that needs more loads than this (rounds times more urgent tasks, summed) is left
+# out; the few slow tables are chosen by hand.
+MOST_LOADS = 20000
+
+
+class Generator:
+    """A linear congruential generator: the same numbers under every version of Python."""
+
+    def __init__(self, seed):
+        self.state = seed
+
+    def word(self):
+        self.state = (self.state * 6364136223846793005 + 1442695040888963407) % 2 ** 64
+        return self.state >> 33
+
+    def below(self, bound):
+        return self.word() * bound >> 31
+
+    def between(self, low, high):
+        return low + self.below(high - low + 1)
+
+    def pick(self, items):
+        return items[self.below(len(items))]
+
+    def chance(self, part, whole):
+        return self.below(whole) < part
+
+    def sample(self, items, count):
+        pool = list(items)
+        return [pool.pop(self.below(len(pool))) for _ in range(count)]
+
+    def bytes(self, count):
+        return bytes(self.below(256) for _ in range(count))
+
+
+def loads_of(tasks, rows):
+    """How many times a program that does document 01's rounds works out one load."""
+    return sum(place * outcome.rounds
+               for place, outcome in enumerate(outcomes_of(tasks, rows)))
+
+
+def exact_entry(data):
+    """Slices of exactly n words, where the bytes have an n."""
+    count = min(data[3], LONGEST_SLICE) if len(data) > 3 else 1
+    return Entry(data, count, count)
+
+
+def slices_for(generator, count):
+    """Mostly n words, else longer, else one or both too short (refusal 8)."""
+    kind = generator.below(10)
+    if kind < 6:
+        return count, count
+    if kind < 8:
+        return (generator.between(count, LONGEST_SLICE), generator.between(count, LONGEST_SLICE))
+    short = generator.below(count)
+    enough = generator.between(count, LONGEST_SLICE)
+    return generator.pick([(short, enough), (enough, short), (short, short)])
+
+
+def made_entry(generator, tasks, rows):
+    return Entry(Draft(tasks, rows).data(), *slices_for(generator, len(tasks)))
+
+
+def answered_entry(generator, tasks, rows):
+    """With slices that are long enough."""
+    lengths = [generator.pick([len(tasks), LONGEST_SLICE]) for _ in range(2)]
+    return Entry(Draft(tasks, rows).data(), *lengths)
+
+
+def made_priorities(generator, count):
+    if generator.chance(1, 2):
+        return list(range(count, 0, -1))
+    chosen = generator.sample(range(1, GREATEST_PRIORITY + 1), count)
+    return sorted(chosen, reverse=True)
+
+
+def made_deadline(generator, period):
+    upper_half = generator.between((period + 1) // 2, period)
+    anywhere = generator.between(1, period)
+    return generator.pick([period, period, period, upper_half, upper_half, anywhere])
+
+
+def made_jitter(generator, period):
+    if generator.chance(6, 10):
+        return 0
+    if generator.chance(9, 10):
+        return generator.between(0, (period + 1) // 2)
+    return generator.between(0, GREATEST_TICKS)
+
+
+def made_tasks(generator, count, scale):
+    """Costs are drawn so that light, full and overfull tables all turn up."""
+    periods = [generator.between(1, scale) for _ in range(count)]
+    if generator.chance(2, 3):
+        periods.sort()
+    load = generator.pick([20, 40, 60, 80, 110, 160])
+    priorities = made_priorities(generator, count)
+    tasks = []
+    for priority, period in zip(priorities, periods):
+        most = max(1, period * load // (50 * count))
+        cost = generator.between(1, min(most, GREATEST_TICKS))
+        tasks.append(Task(priority, period, cost, made_deadline(generator, period),
+                          made_jitter(generator, period)))
+    return tasks
+
+
+def made_rows(generator, tasks, count):
+    semaphores = GREATEST_SEMAPHORE if count > 3 * len(tasks) else 3
+    pairs = [(place, semaphore) for place in range(len(tasks))
+             for semaphore in range(1, semaphores + 1)]
+    chosen = sorted(generator.sample(pairs, count))
+    return [Row(place, semaphore, made_section(generator, tasks[place].cost))
+            for place, semaphore in chosen]
+
+
+def made_section(generator, cost):
+    return generator.pick([1, cost, generator.between(1, cost), generator.between(1, cost)])
+
+
+def made_table(generator, count, row_count, scale):
+    """A table that needs no more than MOST_LOADS loads."""
+    while True:
+        tasks = made_tasks(generator, count, scale)
+        rows = made_rows(generator, tasks, row_count)
+        if loads_of(tasks, rows) <= MOST_LOADS:
+            return tasks, rows
+
+
+def any_small_table(generator):
+    count = generator.between(1, 6)
+    row_count = generator.pick([0, 0, generator.between(0, min(6, 3 * count))])
+    scale = generator.pick([5, 12, 40, 300, 3000, GREATEST_TICKS])
+    return made_table(generator, count, row_count, scale)
+
+
+def small_entries(generator, how_many):
+    for _ in range(how_many):
+        yield made_entry(generator, *any_small_table(generator))
+
+
+def deadline_entries(generator, how_many):
+    """Deadlines exactly at the answer, one tick below it and one above it."""
+    for _ in range(how_many):
+        tasks, rows = any_small_table(generator)
+        for place, task in enumerate(tasks):
+            relaxed = task._replace(deadline=task.period)
+            response = outcome_of(relaxed, tasks, rows).response
+            if response:
+                wanted = response + generator.between(-1, 1)
+                tasks[place] = task._replace(deadline=max(1, min(wanted, task.period)))
+        if loads_of(tasks, rows) <= MOST_LOADS:
+            yield made_entry(generator, tasks, rows)
+
+
+def size_entries(generator):
+    """Every n from 1 to 32, and every m from 0 to 64."""
+    for count in list(range(1, MOST_TASKS + 1)) * 2:
+        row_count = generator.between(0, min(8, 2 * count))
+        yield answered_entry(generator, *made_table(generator, count, row_count, 50 * count))
+    for row_count in range(MOST_ROWS + 1):
+        fewest = max(1, rounded_up(row_count, GREATEST_SEMAPHORE))
+        count = generator.pick([fewest, fewest + 1, min(MOST_TASKS, 3 * fewest)])
+        yield answered_entry(generator, *made_table(generator, count, row_count, 200))
+    largest = made_table(generator, MOST_TASKS, MOST_ROWS, GREATEST_TICKS)
+    yield answered_entry(generator, *largest)
+
+
+def many_round_entries(generator, how_many):
+    """Short periods that fill the processor nearly or wholly, above long ones."""
+    while how_many:
+        shorts = [(generator.between(2, 9), 1) for _ in range(generator.between(1, 4))]
+        longs = [(generator.between(300, 3000), generator.between(1, 5))
+                 for _ in range(generator.between(1, 3))]
+        tasks = listed(*[(period, cost, period) for period, cost in shorts + longs])
+        # In parts of 2520, which 2 to 9 all divide: from nine tenths to the whole.
+        share = sum(2520 // period for period, _ in shorts)
+        if 2268 <= share <= 2520 and loads_of(tasks, []) <= MOST_LOADS:
+            how_many -= 1
+            yield made_entry(generator, tasks, [])
+
+
+def limit_entries(generator, how_many):
+    """Numbers at both ends of their ranges."""
+    ends = [1, 1, 2, GREATEST_TICKS - 1, GREATEST_TICKS, GREATEST_TICKS]
+    while how_many:
+        count = generator.between(1, 5)
+        tasks = []
+        for priority in made_priorities(generator, count):
+            period = generator.pick(ends)
+            deadline = generator.pick([1, period, max(1, period - 1)])
+            jitter = generator.pick([0, 0, 0, 1, GREATEST_TICKS - 1, GREATEST_TICKS])
+            tasks.append(Task(priority, period, generator.pick(ends), deadline, jitter))
+        row_count = generator.pick([0, generator.between(0, 3 * count)])
+        rows = made_rows(generator, tasks, row_count)
+        if loads_of(tasks, rows) <= MOST_LOADS:
+            how_many -= 1
+            yield made_entry(generator, tasks, rows)
+
+
+def greatest_tables():
+    """The largest sums: all numbers at their greatest, and with every count of releases so."""
+    top, end = GREATEST_TICKS, GREATEST_PRIORITY
+    for period in (1, 2, top):
+        for jitter in (0, top):
+            tasks = [Task(end - place, period, top, period, jitter)
+                     for place in range(MOST_TASKS - 1)]
+            tasks.append(Task(1, top, 1, top, 0))
+            yield Draft(tasks).data()
+    tasks = [Task(end - place, top, top, top, 0) for place in range(MOST_TASKS)]
+    rows = [Row(place, semaphore, top) for place in range(4)
+            for semaphore in range(1, GREATEST_SEMAPHORE + 1)]
+    yield Draft(tasks, rows).data()
+
+
+def wrapping_tables():
+    """Sums that pass 2^32 or 2^31 so as to look like a solution, or like one in time, to a
+    program whose words are too narrow. The last task of each is late."""
+    for cost in (1, 2, 100, 40000, 65535):
+        # One load of 65536 times 65536, which is 2^32: cut to 32 bits, demand is the cost.
+        yield Draft(listed((1, 65536, 1, 65536 - cost), (1000000, cost, 1000000))).data()
+    for extra in (0, 1, 5):
+        # The same from two loads of 2^31 each.
+        yield Draft(listed((1, 32768, 1, 65536 - 7), (1, 32768, 1, 65536 - 7),
+                           (1000000, 7 + extra, 1000000))).data()
+    # 2^31 alone, which is negative where words are signed.
+    yield Draft(listed((1, 32768, 1, 65536 - 7), (1000000, 7, 1000000))).data()
+    # A wrap in the second round: x1 is 524,352, in time, and x2 is 2^32 + 524,352.
+    yield Draft(listed((1, 8192, 1), (1000000, 64, 1000000))).data()
+    # Jitter above the deadline: D - J is below 0.
+    yield Draft(listed((10, 1, 10, 11), (10, 1, 9, 10), (20, 1, 1, 1000000))).data()
+
+
+def slow_tables():
+    """Many rounds; together with document 01's own these are the only ones above MOST_LOADS."""
+    yield Draft(listed((1, 1, 1), (1000000, 1, 1000000), (1000000, 1, 1000000))).data()
+    yield Draft(listed((2, 1, 2), (3, 1, 3), (6, 1, 6), (200000, 1, 200000))).data()
+    yield Draft(listed((1000, 999, 1000), (1000000, 900, 1000000))).data()
+    yield Draft(listed((3, 1, 3), (11, 1, 11), (2, 1, 2), (14, 1, 14), (232, 1, 232),
+                       (30000, 1, 30000), (30000, 1, 30000))).data()
+
+
+# ---------------------------------------------------------------------------
+# Faults
+# ---------------------------------------------------------------------------
+
+# A fault is a function that spoils a draft at a place and gives the refusal it asks for, or
+# None where it does not fit. The answers in "expected" never come from here; the self-test
+# compares the two.
+
+def header_fault(**changes):
+    number = {"version": 2, "task_count": 3, "row_count": 3}
+
+    def spoil(draft, _place):
+        for name, value in changes.items():
+            setattr(draft, name, value)
+        return number[next(iter(changes))], 0
+    return spoil
+
+
+def length_fault(stated=0, lent=0, task_count=0, row_count=0):
+    def spoil(draft, _place):
+        draft.stated_length += stated
+        draft.lent_length += lent
+        draft.task_count += task_count
+        draft.row_count += row_count
+        in_range = 1 <= draft.task_count <= MOST_TASKS and 0 <= draft.row_count <= MOST_ROWS
+        return (4, 0) if in_range and draft.lent_length >= HEADER_BYTES else None
+    return spoil
+
+
+def cut_fault(length):
+    def spoil(draft, _place):
+        draft.lent_length = length
+        return 1, 0
+    return spoil
+
+
+def number_fault(field, value):
+    def spoil(draft, place):
+        if place >= len(draft.tasks):
+            return None
+        wanted = value(draft.tasks[place])
+        draft.change_task(place, **{field: max(0, min(wanted, GREATEST_WORD))})
+        return 5, place
+    return spoil
+
+
+def priority_fault(value):
+    def spoil(draft, place):
+        if place >= len(draft.tasks):
+            return None
+        before = draft.tasks[place - 1].priority if place else None
+        priority = value(before)
+        if priority is None or priority > GREATEST_PRIORITY:
+            return None
+        draft.change_task(place, priority=priority)
+        return 6, place
+    return spoil
+
+
+def row_fault(**changes):
+    def spoil(draft, place):
+        if place >= len(draft.rows):
+            return None
+        row = draft.rows[place]
+        values = {name: value(draft, row) for name, value in changes.items()}
+        draft.change_row(place, **values)
+        return 7, place
+    return spoil
+
+
+def repeat_row(draft, place):
+    if place == 0 or place >= len(draft.rows):
+        return None
+    before = draft.rows[place - 1]
+    draft.rows[place] = before._replace(length=1)
+    return 7, place
+
+
+def swap_rows(draft, place):
+    if place == 0 or place >= len(draft.rows):
+        return None
+    draft.rows[place - 1], draft.rows[place] = draft.rows[place], draft.rows[place - 1]
+    return 7, place
+
+
+def cost_of(draft, row):
+    """The cost a row's length is held against; an earlier fault may have spoiled the place."""
+    return draft.tasks[min(row.place, len(draft.tasks) - 1)].cost
+
+
+FAULTS_BY_REFUSAL = [
+    [cut_fault(0), cut_fault(1), cut_fault(4)],
+    [header_fault(version=0), header_fault(version=2), header_fault(version=255)],
+    [header_fault(task_count=0), header_fault(task_count=33), header_fault(task_count=255),
+     header_fault(row_count=65), header_fault(row_count=255)],
+    [length_fault(stated=1), length_fault(stated=-1), length_fault(stated=256),
+     length_fault(lent=1), length_fault(lent=-1), length_fault(lent=17),
+     length_fault(stated=1, lent=1), length_fault(stated=-6, lent=-6),
+     length_fault(task_count=1), length_fault(task_count=-1), length_fault(row_count=1),
+     length_fault(row_count=-1), length_fault(stated=17, task_count=1),
+     length_fault(lent=6, row_count=1), length_fault(lent=-17, task_count=-1)],
+    [number_fault("period", lambda task: 0),
+     number_fault("period", lambda task: GREATEST_TICKS + 1),
+     number_fault("period", lambda task: GREATEST_WORD),
+     number_fault("period", lambda task: task.deadline - 1),
+     number_fault("cost", lambda task: 0),
+     number_fault("cost", lambda task: GREATEST_TICKS + 1),
+     number_fault("cost", lambda task: 2 ** 31),
+     number_fault("deadline", lambda task: 0),
+     number_fault("deadline", lambda task: task.period + 1),
+     number_fault("deadline", lambda task: GREATEST_WORD),
+     number_fault("jitter", lambda task: GREATEST_TICKS + 1),
+     number_fault("jitter", lambda task: GREATEST_WORD)],
+    [priority_fault(lambda before: 0),
+     priority_fault(lambda before: before),
+     priority_fault(lambda before: None if before is None else before + 1),
+     priority_fault(lambda before: None if before is None else GREATEST_PRIORITY)],
+    [row_fault(place=lambda draft, row: len(draft.tasks)),
+     row_fault(place=lambda draft, row: 255),
+     row_fault(semaphore=lambda draft, row: 0),
+     row_fault(semaphore=lambda draft, row: 17),
+     row_fault(semaphore=lambda draft, row: 255),
+     row_fault(length=lambda draft, row: 0),
+     row_fault(length=lambda draft, row: cost_of(draft, row) + 1),
+     row_fault(length=lambda draft, row: GREATEST_WORD),
+     # Place and length both wrong: the place must be tested before the cost is looked up by it.
+     row_fault(place=lambda draft, row: len(draft.tasks), length=lambda draft, row: 0),
+     repeat_row, swap_rows],
+]
+
+Spoiled = collections.namedtuple("Spoiled", "entry refusals")
+
+
+def sound_draft(generator):
+    """A table without fault, small enough to spoil and with rows to spoil."""
+    count = generator.between(3, 5)
+    tasks, rows = made_table(generator, count, generator.between(3, 6), 60)
+    return Draft(tasks, rows)
+
+
+def spoiled_entry(generator, draft, refusals):
+    lengths = slices_for(generator, len(draft.tasks))
+    return Spoiled(Entry(draft.data(), *lengths), refusals)
+
+
+def one_fault(generator):
+    """Every fault at every place of a small table."""
+    for fault in itertools.chain(*FAULTS_BY_REFUSAL):
+        for place in range(6):
+            draft = sound_draft(generator)
+            refusal = fault(draft, place)
+            if refusal:
+                yield spoiled_entry(generator, draft, [refusal])
+
+
+def can_be_written(draft):
+    return (0 <= draft.task_count <= 255 and 0 <= draft.row_count <= 255
+            and draft.lent_length >= 0)
+
+
+def two_faults(generator, how_many):
+    while how_many:
+        draft = sound_draft(generator)
+        faults = [generator.pick(generator.pick(FAULTS_BY_REFUSAL)) for _ in range(2)]
+        refusals = [fault(draft, generator.below(5)) for fault in faults]
+        if None not in refusals and can_be_written(draft):
+            how_many -= 1
+            yield spoiled_entry(generator, draft, refusals)
+
+
+def alternating_faults(generator):
+    """Refusals 5 and 6 at all pairs of places: they "alternate record by record"."""
+    for number_place in range(4):
+        for priority_place in range(4):
+            draft = Draft(*made_table(generator, 4, 2, 60))
+            number, priority = FAULTS_BY_REFUSAL[4], FAULTS_BY_REFUSAL[5]
+            refusals = [generator.pick(number)(draft, number_place),
+                        priority[priority_place and generator.below(2)](draft, priority_place)]
+            yield spoiled_entry(generator, draft, refusals)
+
+
+def check_order(refusal):
+    """Where a refusal stands among the checks; 5 and 6 share a stage, record by record."""
+    number, place = refusal
+    stage = 5 if number == 6 else number
+    return stage, place, number
+
+
+def cut_tables():
+    """Every beginning of two worked tables, and again with the stated length put right."""
+    for whole in (Draft(listed(*FIFTH)).data(),
+                  Draft(listed(*SECTIONS), listed_rows(*SECTION_ROWS)).data()):
+        for length in range(len(whole)):
+            yield whole[:length]
+            if length >= HEADER_BYTES and length % 3 == 0:
+                yield whole[:1] + length.to_bytes(2, "big") + whole[3:length]
+
+
+def changed_byte_tables():
+    """One byte of a table with rows set to 0, raised by one, lowered by one, or set to 255."""
+    whole = Draft(listed(*SECTIONS), listed_rows(*SECTION_ROWS)).data()
+    for at, old in enumerate(whole):
+        for new in sorted({0, (old + 1) % 256, (old - 1) % 256, 255} - {old}):
+            yield whole[:at] + bytes([new]) + whole[at + 1:]
+
+
+def junk_tables(generator, how_many):
+    """Junk throughout; junk after a right version; junk records under a right header."""
+    for _ in range(how_many):
+        yield generator.bytes(generator.below(60))
+        yield bytes([VERSION]) + generator.bytes(generator.below(60))
+        counts = generator.between(1, 3), generator.between(0, 3)
+        length = table_length(*counts)
+        header = bytes([VERSION]) + length.to_bytes(2, "big") + bytes(counts)
+        yield header + generator.bytes(length - HEADER_BYTES)
+
+
+def long_tables(generator):
+    """Lengths above 933, the longest table itself among them."""
+    largest = Draft(*made_table(generator, MOST_TASKS, MOST_ROWS, 3000)).data()
+    yield largest
+    for length in (LONGEST_TABLE + 1, LONGEST_TABLE + 2, 1000, 1500, 4590, 5000):
+        yield largest.ljust(length, b"\x01")
+    yield largest[:1] + MOST_BYTES_TAKEN.to_bytes(2, "big") + largest[3:] + b"\x00"
+    thirty_three = Draft(listed(*[(100, 1, 100)] * 33), [Row(0, 1, 1)] * 64)
+    yield thirty_three.data()
+    yield bytes(1000)
+
+
+def slice_entries():
+    """All pairs of slice lengths about n, and the longest; long slices keep their later words."""
+    for table in (WORKED_TABLES[0], WORKED_TABLES[4], WORKED_TABLES[10]):
+        data = Draft(table.tasks, table.rows).data()
+        lengths = list(range(len(table.tasks) + 3)) + [LONGEST_SLICE]
+        for answers_length in lengths:
+            for rounds_length in lengths:
+                yield Entry(data, answers_length, rounds_length)
+    spoiled = Draft(listed(*FIFTH))
+    spoiled.change_task(2, priority=0)
+    for lengths in ((0, 0), (2, 40), (40, 2)):
+        yield Entry(spoiled.data(), *lengths)
+
+
+def made_entries(generator):
+    yield from small_entries(generator, 1500)
+    yield from deadline_entries(generator, 350)
+    yield from size_entries(generator)
+    yield from many_round_entries(generator, 60)
+    yield from limit_entries(generator, 200)
+    for data in greatest_tables():
+        yield exact_entry(data)
+    for data in wrapping_tables():
+        yield exact_entry(data)
+    for data in slow_tables():
+        yield exact_entry(data)
+    for spoiled in one_fault(generator):
+        yield spoiled.entry
+    for spoiled in two_faults(generator, 600):
+        yield spoiled.entry
+    for spoiled in alternating_faults(generator):
+        yield spoiled.entry
+    for data in cut_tables():
+        yield Entry(data, LONGEST_SLICE, LONGEST_SLICE)
+    for data in changed_byte_tables():
+        yield exact_entry(data)
+    for data in junk_tables(generator, 70):
+        yield Entry(data, *generator.pick([(3, 3), (40, 40), (0, 0)]))
+    for data in long_tables(generator):
+        yield Entry(data, MOST_TASKS, LONGEST_SLICE)
+    yield from slice_entries()
+
+
+SEED = 20240101
+
+
+def all_entries():
+    """Document 01's worked tables come first and in its order: entry 4 is the fifth table."""
+    for table in WORKED_TABLES:
+        yield exact_entry(Draft(table.tasks, table.rows).data())
+    for data, _ in edge_tables():
+        yield exact_entry(data)
+    for data in source_tables():
+        yield exact_entry(data)
+    yield from made_entries(Generator(SEED))
+
+
+def entry_bytes(entry):
+    # The form is told in the help of make.
+    return (len(entry.table).to_bytes(2, "big")
+            + bytes([entry.answers_length, entry.rounds_length]) + entry.table)
+
+
+def entry_text(number, entry):
+    return "table %d\n%sstayed\n" % (number, text_of(*entry))
+
+
+# ---------------------------------------------------------------------------
+# A run, played tick by tick
+# ---------------------------------------------------------------------------
+
+Job = collections.namedtuple("Job", "task release need")
+
+
+def play(task_count, jobs, ticks):
+    # "In each tick the processor serves one unfinished, already released job, if there is one:
+    # the most urgent task that has any, and of that task the oldest. A job may be served in its
+    # release tick."
+    #
+    # Tasks are numbered from the most urgent. Gives for each job the first tick at which it is
+    # finished ("its whole need was served in ticks before x"), or None. Late jobs queue.
+    finished = [None] * len(jobs)
+    left = [job.need for job in jobs]
+    waiting = [collections.deque() for _ in range(task_count)]
+    coming = collections.deque(sorted(range(len(jobs)), key=lambda job: jobs[job].release))
+    for tick in range(ticks):
+        while coming and jobs[coming[0]].release == tick:
+            job = coming.popleft()
+            waiting[jobs[job].task].append(job)
+        queue = next((queue for queue in waiting if queue), None)
+        if queue:
+            left[queue[0]] -= 1
+            if left[queue[0]] == 0:
+                finished[queue.popleft()] = tick + 1
+    return finished
+
+
+def together(tasks, ticks):
+    """All tasks released at 0 and then every T, at full cost."""
+    return [Job(place, release, task.cost) for place, task in enumerate(tasks)
+            for release in range(0, ticks, task.period)]
+
+
+def random_run(generator, tasks, ticks):
+    # "Each job has a task, a release tick, and a need of 1 to C ticks. Two releases of one task
+    # are at least T apart." The looser the run, the longer the gaps and the shorter the needs.
+    looseness = generator.below(4)
+    jobs = []
+    for place, task in enumerate(tasks):
+        release = generator.between(0, looseness * task.period)
+        while release < ticks:
+            full = generator.chance(4 - looseness, 4)
+            jobs.append(Job(place, release, task.cost if full else generator.between(1, task.cost)))
+            release += task.period
+            if looseness and generator.chance(looseness, 4):
+                release += generator.between(0, task.period)
+    return jobs
+
+
+def job_exceeding(tasks, responses, jobs, ticks):
+    # "For answer R above 0: every job released at r with r + R <= N is finished at r + R".
+    # Gives a job for which that is false, or None.
+    finished = play(len(tasks), jobs, ticks)
+    for job, end in zip(jobs, finished):
+        response = responses[job.task]
+        due = job.release + response
+        if response and due <= ticks and (end is None or end > due):
+            return job
+    return None
+
+
+def first_finish(tasks, place, ticks):
+    """When the first job of a task is finished in the run released together, or None."""
+    jobs = together(tasks, ticks)
+    return play(len(tasks), jobs, ticks)[jobs.index(Job(place, 0, tasks[place].cost))]
+
+
+# ---------------------------------------------------------------------------
+# The self-test
+# ---------------------------------------------------------------------------
+
+class Checks:
+    """Counts what was compared and says what differed."""
+
+    def __init__(self):
+        self.done = 0
+        self.failed = 0
+
+    def same(self, found, wanted, what):
+        self.done += 1
+        if found != wanted:
+            self.failed += 1
+            print("reference: %s: found %r, wanted %r" % (what, found, wanted))
+
+
+def refusal_of(entry):
+    try:
+        read_table(*entry)
+    except Refused as refusal:
+        return refusal.number, refusal.place
+    return None
+
+
+def check_printed(checks, table, name):
+    """Responses, rounds and blocking, where the documents print them."""
+    outcomes = outcomes_of(table.tasks, table.rows)
+    if table.responses:
+        checks.same([outcome.response for outcome in outcomes], table.responses, name)
+    if table.rounds:
+        checks.same([outcome.rounds for outcome in outcomes], table.rounds, name + " rounds")
+    if table.blocking:
+        blocking = [blocking_of(task, table.tasks, table.rows) for task in table.tasks]
+        checks.same(blocking, table.blocking, name + " blocking")
+
+
+def check_documents(checks):
+    for number, table in enumerate(WORKED_TABLES):
+        check_printed(checks, table, "worked table %d" % number)
+    for number, table in enumerate(SOURCE_TABLES):
+        check_printed(checks, table, "source table %d" % number)
+    last_of = {((7, 3, 7), (12, 3, 12), (20, 5, 20)): 20, ((2, 1, 2), (5, 2, 4)): 4}
+    for entries, response in last_of.items():
+        tasks = listed(*entries)
+        checks.same(outcomes_of(tasks, [])[-1].response, response, "002's %r" % (entries,))
+    checks.same(text_of(Draft(listed(*FIFTH)).data()), FIFTH_TEXT, "fifth table's text")
+    late = WORKED_TABLES[10]
+    checks.same(text_of(Draft(late.tasks).data()), LATE_TEXT, "late table's text")
+    for number, data in enumerate(wrapping_tables()):
+        last = outcomes_of(*read_table(data, MOST_TASKS, MOST_TASKS))[-1]
+        checks.same(last.response, 0, "wrapping table %d" % number)
+    for number, (data, wanted) in enumerate(edge_tables()):
+        text = text_of(data)
+        if wanted is None:
+            text = None if text.startswith("tasks ") else text
+        checks.same(text, wanted, "edge %d" % number)
+
+
+def check_faults(checks):
+    """Each fault gives its own refusal; of two of different stages the earlier is given. (Two in
+    one stage, or two in the header, may undo each other.)"""
+    generator = Generator(SEED + 1)
+    for spoiled in one_fault(generator):
+        checks.same(refusal_of(spoiled.entry), spoiled.refusals[0], "one fault")
+    for spoiled in two_faults(generator, 600):
+        first, second = sorted(spoiled.refusals, key=check_order)
+        if second[0] > 4 and check_order(first)[0] != check_order(second)[0]:
+            checks.same(refusal_of(spoiled.entry), first, "two faults")
+    for spoiled in alternating_faults(generator):
+        first = min(spoiled.refusals, key=check_order)
+        checks.same(refusal_of(spoiled.entry), first, "5 and 6")
+
+
+def check_searches(checks, tasks, rows):
+    """The plain search and the skipping one, the sequence's end, and the bound on rounds."""
+    for place, task in enumerate(tasks):
+        base = task.cost + blocking_of(task, tasks, rows)
+        urgent_tasks = more_urgent_than(task, tasks)
+        plain = plain_search(base, urgent_tasks, task.deadline)
+        skipping = skipping_search(base, urgent_tasks, task.deadline)
+        checks.same(skipping, plain, "search of task %d of %r" % (place, tasks))
+        # "rounds is at most D_i - J_i - x0 + 1 when x0 + J_i <= D_i, and is 1 otherwise"
+        rounds = count_rounds(task, base, urgent_tasks)
+        bound = max(1, task.deadline - task.jitter - base + 1)
+        checks.same(1 <= rounds <= bound, True, "rounds of task %d of %r" % (place, tasks))
+
+
+def check_random_runs(checks, generator, tasks):
+    responses = [outcome.response for outcome in outcomes_of(tasks, [])]
+    ticks = 4 * max(task.period for task in tasks) + 20
+    for _ in range(12):
+        jobs = random_run(generator, tasks, ticks)
+        checks.same(job_exceeding(tasks, responses, jobs, ticks), None, "run of %r" % (tasks,))
+
+
+def check_run_together(checks, tasks):
+    # "some run ... has such a job unfinished at r + R - 1", and for answer 0 "some run has a job
+    # with r + D <= N unfinished at r + D": the run released together is such a run.
+    for place, outcome in enumerate(outcomes_of(tasks, [])):
+        deadline = tasks[place].deadline
+        wanted = outcome.response if outcome.response else None
+        checks.same(first_finish(tasks, place, deadline), wanted,
+                    "task %d of %r released together" % (place, tasks))
+
+
+def check_runs(checks):
+    generator = Generator(SEED + 2)
+    for _ in range(700):
+        count = generator.between(1, 4)
+        tasks = [task._replace(jitter=0)
+                 for task in made_tasks(generator, count, generator.pick([4, 8, 15, 30]))]
+        check_random_runs(checks, generator, tasks)
+        check_run_together(checks, tasks)
+
+
+LONGEST_PLAIN_DEADLINE = 3000
+LONGEST_PLAYED_DEADLINE = 400
+
+
+def check_entries(checks):
+    """All tables that "make" writes: both searches, and the run released together."""
+    for entry in all_entries():
+        if refusal_of(entry):
+            continue
+        tasks, rows = read_table(*entry)
+        longest = max(task.deadline for task in tasks)
+        if longest <= LONGEST_PLAIN_DEADLINE:
+            check_searches(checks, tasks, rows)
+        if longest <= LONGEST_PLAYED_DEADLINE and not rows and not any(
+                task.jitter for task in tasks):
+            check_run_together(checks, tasks)
+
+
+# ---------------------------------------------------------------------------
+# Tables to measure
+# ---------------------------------------------------------------------------
+
+Measured = collections.namedtuple("Measured", "name few many title data")
+
+
+def loaded_tasks(count, percent):
+    """Periods rising by a fifth from 1,000 ticks, each task with the same share of the load."""
+    tasks, period = [], 1000
+    for place in range(count):
+        cost = max(1, period * percent // (100 * count))
+        tasks.append(Task(count - place, period, cost, period, 0))
+        period = period * 6 // 5 + place % 3
+    return tasks
+
+
+def loaded_rows(tasks, count):
+    """Rows spread evenly over the tasks and the semaphores; short sections."""
+    places = [place * len(tasks) // count for place in range(count)] if count else []
+    rows, semaphore = [], 0
+    for number, place in enumerate(places):
+        fresh = number == 0 or places[number - 1] != place
+        semaphore = 1 + place % 2 if fresh else semaphore + 1
+        rows.append(Row(place, semaphore, 1 + tasks[place].cost // 8))
+    return rows
+
+
+def is_schedulable(tasks, rows):
+    return all(outcome.response for outcome in outcomes_of(tasks, rows))
+
+
+def loaded_draft(count, row_count, percents):
+    """The last of these loads that is still schedulable, and its table."""
+    chosen = None
+    for percent in percents:
+        tasks = loaded_tasks(count, percent)
+        rows = loaded_rows(tasks, row_count)
+        if is_schedulable(tasks, rows):
+            chosen = percent, Draft(tasks, rows)
+    return chosen
+
+
+def load_class(count, row_count, kind, percents):
+    percent, draft = loaded_draft(count, row_count, percents)
+    title = "%d %s, %s (%d%%)" % (count, "task" if count == 1 else "tasks", kind, percent)
+    name = "%d-%s" % (count, kind.replace(" ", "-"))
+    if row_count:
+        title += ", %d rows" % row_count
+        name += "-rows"
+    return Measured(name, 100, 200, title, draft.data())
+
+
+def load_classes():
+    """One task has room for 16 rows only."""
+    for count, row_count in ((1, 16), (8, 64), (32, 64)):
+        yield load_class(count, 0, "light", [30])
+        yield load_class(count, 0, "near full load", range(50, 101))
+        yield load_class(count, row_count, "near full load", range(50, 101))
+
+
+def slowest_table():
+    """The table with the most loads that a search over short periods of the first tasks found:
+    42,724,053, where (1,1,1) above 31 tasks like the last ones has 31,000,252."""
+    short = [(period, 1, period) for period in (3, 11, 2, 14, 232)]
+    long = [(GREATEST_TICKS, 1, GREATEST_TICKS)] * (MOST_TASKS - len(short))
+    return Draft(listed(*(short + long))).data()
+
+
+def refusal_classes():
+    last_task, last_row = MOST_TASKS - 1, MOST_ROWS - 1
+    for title, fault, place in (
+            ("1", cut_fault(4), 0),
+            ("2", header_fault(version=2), 0),
+            ("3", header_fault(row_count=65), 0),
+            ("4", length_fault(lent=1), 0),
+            ("5, first task", number_fault("jitter", lambda task: GREATEST_TICKS + 1), 0),
+            ("5, last task", number_fault("jitter", lambda task: GREATEST_TICKS + 1), last_task),
+            ("6, first task", priority_fault(lambda before: 0), 0),
+            ("6, last task", priority_fault(lambda before: 0), last_task),
+            ("7, first row", row_fault(length=lambda draft, row: 0), 0),
+            ("7, last row", row_fault(length=lambda draft, row: 0), last_row)):
+        _, draft = loaded_draft(MOST_TASKS, MOST_ROWS, [30])
+        fault(draft, place)
+        name = "refusal-" + title.replace(",", "").replace(" ", "-")
+        yield Measured(name, 100, 200, "refusal " + title, draft.data())
+
+
+def measured_classes():
+    yield from load_classes()
+    yield Measured("slowest", 1, 2, "the slowest table found", slowest_table())
+    yield from refusal_classes()
+
+
+# ---------------------------------------------------------------------------
+# Commands
+# ---------------------------------------------------------------------------
+
+def command_answer(arguments):
+    """Reads at most 934 bytes "and judges what it took"."""
+    if arguments.file is None:
+        data = sys.stdin.buffer.read(MOST_BYTES_TAKEN)
+    else:
+        with open(arguments.file, "rb") as source:
+            data = source.read(MOST_BYTES_TAKEN)
+    sys.stdout.write(text_of(data))
+
+
+def write_file(folder, name, data):
+    with open(os.path.join(folder, name), "wb") as target:
+        target.write(data)
+
+
+def command_make(arguments):
+    entries = list(all_entries())
+    tables = b"".join(entry_bytes(entry) for entry in entries)
+    texts = (entry_text(number, entry) for number, entry in enumerate(entries))
+    expected = "".join(texts).encode("ascii")
+    os.makedirs(arguments.folder, exist_ok=True)
+    write_file(arguments.folder, "tables", tables)
+    write_file(arguments.folder, "expected", expected)
+    print("reference: %d tables, %d bytes of tables, %d bytes of answers"
+          % (len(entries), len(tables), len(expected)))
+
+
+def command_check(_arguments):
+    checks = Checks()
+    check_documents(checks)
+    check_faults(checks)
+    check_entries(checks)
+    check_runs(checks)
+    if checks.failed:
+        sys.exit("reference: %d of %d checks failed" % (checks.failed, checks.done))
+    print("reference: %d checks" % checks.done)
+
+
+def command_classes(arguments):
+    os.makedirs(arguments.folder, exist_ok=True)
+    for measured in measured_classes():
+        write_file(arguments.folder, measured.name + ".table", measured.data)
+        print("%s %d %d %s" % measured[:4])
+
+
+MAKE_HELP = """writes FOLDER/tables and FOLDER/expected, the same bytes at every run
+
+An entry of "tables" is 2 bytes, big-endian, with the table's length; 1 byte with the length in
+words of the slice lent for answers; 1 byte with that of the slice lent for rounds; and the
+table's bytes. Both slices are lent filled with the word %d (0x%X).
+
+"expected" holds for each entry K, counted from 0, a line "table K", the program's text for it,
+and a line "stayed". (A program under test prints "changed" there if a word past n, or any word
+on a refusal, is no longer the filler.)
+""" % (FILLER, FILLER)
+
+CLASSES_HELP = """writes one table for each class that is measured, FOLDER/NAME.table, and prints
+for each a line with its name, two numbers of repeats whose difference is to be taken, and a
+title.
+"""
+
+
+def parse_arguments():
+    parser = argparse.ArgumentParser(
+        description="A second opinion on task tables, written from document 01 alone.")
+    commands = parser.add_subparsers(dest="command", required=True, metavar="COMMAND")
+
+    answer = commands.add_parser("answer", help="print the program's text for one table")
+    answer.add_argument("file", nargs="?", metavar="FILE", help="else standard input")
+    answer.set_defaults(run=command_answer)
+
+    raw = argparse.RawDescriptionHelpFormatter
+    make = commands.add_parser("make", help="write tables and their expected answers",
+                               description=MAKE_HELP, formatter_class=raw)
+    make.add_argument("folder", metavar="FOLDER")
+    make.set_defaults(run=command_make)
+
+    check = commands.add_parser("check", help="compare this program with document 01 and itself")
+    check.set_defaults(run=command_check)
+
+    classes = commands.add_parser("classes", help="write the tables that are measured",
+                                  description=CLASSES_HELP, formatter_class=raw)
+    classes.add_argument("folder", metavar="FOLDER")
+    classes.set_defaults(run=command_classes)
+    return parser.parse_args()
+
+
+def main():
+    arguments = parse_arguments()
+    arguments.run(arguments)
+
+
+if __name__ == "__main__":
+    main()
