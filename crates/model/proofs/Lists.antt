@@ -1,6 +1,6 @@
 -- Laws of lists made from a function of the place, and of sums.
 -- Assumes nothing.
-use Prim.Native.Nat.{ℕ, zero, suc, _+_, _≤_, _<_, max}
+use Prim.Native.Nat.{ℕ, zero, suc, _+_, _-_, _≤_, _<_, max}
 use native.Mathlib.Omega.{arith}
 use native.Mathlib.Decide.{ℕ-discrete}
 use native.Mathlib.Nat.{add-suc, suc-add, add-zero, zero-add, add-assoc}
@@ -8,7 +8,7 @@ use native.Mathlib.Numerals.{add-one}
 use mathlib.Core.Path.{_≡_, refl, sym, _∙_, ap, subst}
 use mathlib.Core.List.{List, [], _∷_, _++_, append-assoc}
 use lib.ListN.{length, getD, set, drop, length-append, length-drop, List·getD-append}
-use lib.Seq.{getD-append-seam, drop-cons, set-at, append-snoc, getD-append-add}
+use lib.Seq.{getD-append-seam, drop-cons, set-at, append-snoc, getD-append-add, getD-drop}
 use Rattle.model.specs.Lists.{tabulate, filled, sumOf, largestOf, largestTo}
 
 module _ {A : Type 0} (f : ℕ → A) where
@@ -110,3 +110,11 @@ pub largest-high : (f : ℕ → ℕ) (n high : ℕ) → ((k : ℕ) → k < n →
 unfolding largestTo
 largest-high f zero high h = omega arith
 largest-high f (suc n) high h = omega (arith, largest-high f n high (λ k l. h k (omega arith)), h n (omega arith))
+
+-- past the words that were filled the old ones have stayed
+pub getD-filled-past : {A : Type 0} (f : ℕ → A) (n i : ℕ) (old : List A) (d : A) → n ≤ i → getD (filled f n old) i d ≡ getD old i d
+getD-filled-past {A} f n i old d h =
+    let back : n + (i - n) ≡ i = omega arith in
+    subst (λ (k : ℕ). getD (filled f n old) k d ≡ getD old k d) back
+    (subst (λ (k : ℕ). getD (filled f n old) (k + (i - n)) d ≡ getD old (n + (i - n)) d) (length-tabulate f n)
+    (getD-append-add (tabulate f n) (drop n old) (i - n) d ∙ getD-drop n old (i - n) d))

@@ -19,7 +19,7 @@ use Rattle.blocking.specs.Ceilings.{owner, section, blockingOf}
 use Rattle.blocking.specs.Slices.{ownerAt, topAt, sectionAt, RowsHeld}
 use Rattle.blocking.proofs.CeilingLaws.{blocking-agrees}
 use Rattle.response.specs.Analysis.{baseOf, answerOf, roundsOf}
-use Rattle.response.specs.Slices.{Decoded, decoded, baseIn, loadsIn, answerIn, roundsIn, DecodedFits}
+use Rattle.response.specs.Slices.{decoded, baseIn, loadsIn, answerIn, roundsIn, DecodedFits}
 use Rattle.response.specs.Stages.{Holds, RecordsHeld, RowsRead}
 use Rattle.response.proofs.TableLaws as tables
 
@@ -67,9 +67,6 @@ module _ (bytes : List ℕ) (n m : ℕ) (priorities periods costs deadlines jitt
 
   module _ (owners tops : List ℕ) (ownersHeld : Holds owners m (ownerAt priorities places))
       (topsHeld : Holds tops m (topAt priorities places semaphores m)) where
-    d : Decoded
-    d = decoded priorities periods costs deadlines jitters owners tops longest m
-
     longest-high : (k : ℕ) → k < m → getD longest k 0 ≤ 1000000
     longest-high k h =
         let row = rowsRight k (row-inside h) in

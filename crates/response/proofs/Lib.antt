@@ -4,3 +4,5 @@ pub mod DecodedLaws
 pub mod OutcomeLaws
 pub mod StageLaws
 pub mod PlaceLaws
+pub mod Demands
+pub mod WorkedTables

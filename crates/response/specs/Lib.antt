@@ -3,3 +3,5 @@ pub mod Verdicts
 pub mod Outcome
 pub mod Slices
 pub mod Stages
+pub mod Statements
+pub mod Worked

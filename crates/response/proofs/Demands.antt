@@ -1,0 +1,272 @@
+-- Demands 1 to 3 for bytes, and that the contract of `analyse` leaves no second answer.
+-- Assumes nothing.
+use Prim.Native.Nat.{ℕ, zero, suc, _+_, _-_, _≤_, _<_}
+use native.Mathlib.Omega.{arith}
+use native.Mathlib.Decide.{decLe}
+use native.Mathlib.Nat.{add-zero}
+use mathlib.Core.Path.{_≡_, refl, sym, _∙_, ap, subst}
+use mathlib.Core.Bool.{Bool, true, false}
+use mathlib.Core.Logic.{_⊎_, inl, inr}
+use mathlib.Core.List.{List, []}
+use lib.Dec.{eqb, ltb}
+use lib.ListN.{length, getD}
+use borrow.Author.Tests.{eqb-true, eqb-false, ltb-true, ltb-false, eq-eqb, ne-eqb}
+use Rattle.model.specs.Choice.{pick, either}
+use Rattle.model.specs.Lists.{filled, tabulate, largestOf}
+use Rattle.model.specs.Tables.{Table, Task, taskOf, loadsOf}
+use Rattle.model.proofs.Lists.{getD-filled, getD-filled-past, length-filled}
+use Rattle.model.proofs.Tests.{bool?, clash, not-either, either-true}
+use Rattle.model.proofs.First as first-laws
+use Rattle.tables.specs.declared.Refusal.{Refusal}
+use Rattle.tables.specs.declared.Check.{Check}
+use Rattle.tables.specs.declared.Check.the-variants as check
+use Rattle.tables.specs.Layout.{taskCount, rowCount, tasksOf, rowsOf, rowAt, tableOf}
+use Rattle.tables.specs.Refusals.{at, isClean}
+use Rattle.tables.specs.Checks.{tableCheck}
+use Rattle.tables.specs.Meaning.{TableRight, RoomFor, Deserved}
+use Rattle.tables.proofs.CheckLaws.{table-deserved, table-clean}
+use Rattle.equation.specs.Answer.{answer}
+use Rattle.equation.specs.Sequence.{term, stops, rounds}
+use Rattle.equation.specs.Laws.{IsSmallest, NotAbove}
+use Rattle.equation.proofs.Laws.{answerMeans, roundsMean, roundsBound, demandGrows}
+use Rattle.blocking.specs.Ceilings.{blockingOf, section}
+use Rattle.runs.specs.Jobs.{NoJitter}
+use Rattle.runs.specs.Statement.{Answers, responseOf}
+use Rattle.runs.proofs.Demand3 as runs
+use Rattle.response.specs.declared.Verdict.{Verdict}
+use Rattle.response.specs.declared.Verdict.the-variants as verdict
+use Rattle.response.specs.Verdicts.{isSchedulable}
+use Rattle.response.specs.Analysis.{baseOf, answerOf, roundsOf}
+use Rattle.response.specs.Outcome.{Outcome, lateIf, lateAt, resultOf, verdictFor, verdictOf, answersAfter, roundsAfter}
+use Rattle.response.specs.Statements as says
+use Rattle.response.specs.Statements.{AnswerRight, RoundsRight, ResultRight, Written, wordAt}
+use Rattle.response.proofs.PlaceLaws.{schedulable-only}
+use Rattle.response.proofs.TableLaws.{task-is, tasks-count, tasks-fit}
+
+-- which verdict a check leads to
+refused-by : (c : Check) (result : Verdict) (r : Refusal) → isSchedulable result ≡ true ⊎ ((i : _) × (result ≡ verdict.Late i)) →
+    verdict.Refused r ≡ verdictFor c result → c ≡ check.Refused r
+refused-by check.Clean result r (inl s) e =
+    absurd (clash (isSchedulable result) s (ap isSchedulable (sym e)))
+refused-by check.Clean result r (inr late) e =
+    let z : _≡_ {A = ℕ} 0 1 = cc (e, late .1) in absurd (omega arith)
+refused-by (check.Refused s) result r t e = cc
+
+-- a result is schedulable, or late at a place
+result-cases : (answers : ℕ → ℕ) (n : ℕ) → (isSchedulable (resultOf answers n) ≡ true) ⊎ ((i : _) × (resultOf answers n ≡ verdict.Late i))
+result-cases answers n =
+    elim (bool? (isSchedulable (resultOf answers n))) [
+      | inl p ↦ inl p
+      | inr p ↦
+          let g = first-laws.first-found isSchedulable verdict.Schedulable refl (lateAt answers) schedulable-only n p in
+          inr (at (g .0), g .2 ∙ late-is (answers (g .0)) (g .0) (sym (ap isSchedulable (g .2)) ∙ p))
+    ]
+  where
+    late-is : (a i : ℕ) → isSchedulable (lateIf a (at i)) ≡ false → lateIf a (at i) ≡ verdict.Late (at i)
+    late-is a i p =
+        elim (bool? (eqb a 0)) [
+          | inl y ↦ rw y
+          | inr n ↦ absurd (clash (isSchedulable (lateIf a (at i))) (rw n) p)
+        ]
+
+module _ (bytes answers rounds : List ℕ) where
+  refusal-is : (r : Refusal) → verdict.Refused r ≡ verdictOf bytes (length answers) (length rounds) →
+      tableCheck bytes (length answers) (length rounds) ≡ check.Refused r
+  unfolding verdictOf
+  refusal-is r e =
+      refused-by (tableCheck bytes (length answers) (length rounds)) (resultOf (answerOf (tableOf bytes)) (taskCount bytes)) r
+      (result-cases (answerOf (tableOf bytes)) (taskCount bytes)) e
+
+  answers-kept : (r : Refusal) → tableCheck bytes (length answers) (length rounds) ≡ check.Refused r → answersAfter bytes answers rounds ≡ answers
+  unfolding answersAfter
+  answers-kept r e = rw e
+
+  rounds-kept : (r : Refusal) → tableCheck bytes (length answers) (length rounds) ≡ check.Refused r → roundsAfter bytes answers rounds ≡ rounds
+  unfolding roundsAfter
+  rounds-kept r e = rw e
+
+pub demand1 : says.Demand1
+demand1 =
+    record {
+      answered = λ bytes answers rounds. (
+        verdictOf bytes (length answers) (length rounds),
+        answersAfter bytes answers rounds,
+        roundsAfter bytes answers rounds,
+        record { verdictIs = refl; answersAre = refl; roundsAre = refl },
+      );
+      refused = λ bytes answers rounds answersLeft roundsLeft r o.
+          let e = refusal-is bytes answers rounds r (o .verdictIs) in (
+            table-deserved bytes (length answers) (length rounds) r e,
+            o .answersAre ∙ answers-kept bytes answers rounds r e,
+            o .roundsAre ∙ rounds-kept bytes answers rounds r e,
+          );
+      accepted = λ bytes answers rounds answersLeft roundsLeft r right room o.
+          clash (isClean (tableCheck bytes (length answers) (length rounds)))
+          (ap isClean (table-clean bytes (length answers) (length rounds) right room))
+          (ap isClean (refusal-is bytes answers rounds r (o .verdictIs)));
+    }
+
+pub noSecondAnswer : says.NoSecondAnswer
+noSecondAnswer bytes answers rounds v w a r b s o p =
+    (o .verdictIs ∙ sym (p .verdictIs), o .answersAre ∙ sym (p .answersAre), o .roundsAre ∙ sym (p .roundsAre))
+
+-- the answer and the rounds of a task, said without a search
+module _ (table : Table) (i : ℕ) (costLow : 1 ≤ taskOf (table .tasks) i .cost) where
+  pub answer-right : AnswerRight table i (answerOf table i)
+  unfolding answerOf
+  answer-right =
+      let loads = loadsOf (table .tasks) i in
+      let late = taskOf (table .tasks) i .jitter in
+      let due = taskOf (table .tasks) i .deadline in
+      record {
+        answered = λ one.
+            let s = answerMeans .positive (baseOf table i) loads late due one in
+            (s .0, s .1, s .3, omega (arith, s .2, s .3));
+        late = λ none w s.
+            elim (decLe (w + late) due) [
+              | yes h ↦ absurd (omega (arith, answerMeans .answered (baseOf table i) loads late due w s h, s .positive))
+              | no h ↦ omega arith
+            ];
+      }
+
+  pub rounds-right : RoundsRight table i (roundsOf table i)
+  unfolding roundsOf term
+  rounds-right =
+      let loads = loadsOf (table .tasks) i in
+      let late = taskOf (table .tasks) i .jitter in
+      let due = taskOf (table .tasks) i .deadline in
+      let start = baseOf table i in
+      let one : 1 ≤ start = omega arith in
+      let above : NotAbove start loads start = λ w p e. omega (arith, demandGrows .atLeastBase start loads w) in
+      let k = rounds start loads start late due in
+      record {
+        positive = roundsBound .positive start loads start late due one above;
+        last =
+            elim (bool? (eqb (term start loads start k) (term start loads start (k - 1)))) [
+              | inl y ↦ inl (eqb-true _ _ y)
+              | inr n ↦
+                  inr
+                  (ltb-true _ _
+                  (either-true (eqb (term start loads start k) (term start loads start (k - 1))) _
+                  (roundsMean .stop start loads start late due one above) n))
+            ];
+        first = λ j low high.
+            let n = not-either (eqb (term start loads start j) (term start loads start (j - 1))) _
+            (roundsMean .first start loads start late due j low high) in
+            (eqb-false _ _ (n .0), ltb-false _ _ (n .1));
+        within = roundsBound .within start loads start late due one above;
+        otherwise = roundsBound .otherwise start loads start late due one above;
+      }
+
+-- what a result says of the answers
+all-positive : (answers : ℕ → ℕ) (n : ℕ) → ((k : ℕ) → k < n → lateAt answers k ≡ verdict.Schedulable) → (i : ℕ) → i < n → 1 ≤ answers i
+all-positive answers n f i h =
+    elim (bool? (eqb (answers i) 0)) [
+      | inl y ↦
+          let late : lateAt answers i ≡ verdict.Late (at i) = rw y in
+          let z : _≡_ {A = ℕ} 0 1 = cc (late, f i h) in absurd (omega arith)
+      | inr n ↦
+          elim (decLe 1 (answers i)) [
+            | yes p ↦ p
+            | no p ↦ absurd (eqb-false (answers i) 0 n (omega arith))
+          ]
+    ]
+
+late-zero : (answers : ℕ → ℕ) (k : ℕ) → isSchedulable (lateAt answers k) ≡ false → (answers k ≡ 0) × (lateAt answers k ≡ verdict.Late (at k))
+late-zero answers k p =
+    elim (bool? (eqb (answers k) 0)) [
+      | inl y ↦ (eqb-true (answers k) 0 y, rw y)
+      | inr n ↦ absurd (clash (isSchedulable (lateAt answers k)) (rw n) p)
+    ]
+
+result-right : (answers : ℕ → ℕ) (n : ℕ) → ResultRight answers n (resultOf answers n)
+result-right answers n =
+    elim (bool? (isSchedulable (resultOf answers n))) [
+      | inl p ↦
+          let e = schedulable-only (resultOf answers n) p in
+          subst (ResultRight answers n) (sym e)
+          (all-positive answers n
+          (first-laws.all-clean isSchedulable verdict.Schedulable refl (lateAt answers) schedulable-only n e))
+      | inr p ↦
+          let g = first-laws.first-found isSchedulable verdict.Schedulable refl (lateAt answers) schedulable-only n p in
+          let late = late-zero answers (g .0) (sym (ap isSchedulable (g .2)) ∙ p) in
+          subst (ResultRight answers n) (sym (g .2 ∙ late .1))
+          (g .1, late .0, all-positive answers (g .0) (g .3))
+    ]
+
+-- the same answers below n, the same result
+result-transfer : (f g : ℕ → ℕ) (n : ℕ) (v : Verdict) → ((i : ℕ) → i < n → f i ≡ g i) → ResultRight f n v → ResultRight g n v
+result-transfer f g n (verdict.Refused r) same h = h
+result-transfer f g n verdict.Schedulable same h = λ i l. rw (sym (same i l)) (h i l)
+result-transfer f g n (verdict.Late p) same h =
+    (h .0, sym (same (p .0) (h .0)) ∙ h .1, λ i l. rw (sym (same i (omega (arith, h .0)))) (h .2 i l))
+
+module _ (bytes answers rounds : List ℕ) (v : Verdict) (answersLeft roundsLeft : List ℕ)
+    (o : Outcome bytes answers rounds v answersLeft roundsLeft) (right : TableRight bytes)
+    (room : RoomFor bytes (length answers) (length rounds)) where
+  clean : tableCheck bytes (length answers) (length rounds) ≡ check.Clean
+  clean = table-clean bytes (length answers) (length rounds) right room
+
+  answers-filled : answersLeft ≡ filled (answerOf (tableOf bytes)) (taskCount bytes) answers
+  unfolding answersAfter
+  answers-filled = o .answersAre ∙ rw clean
+
+  rounds-filled : roundsLeft ≡ filled (roundsOf (tableOf bytes)) (taskCount bytes) rounds
+  unfolding roundsAfter
+  rounds-filled = o .roundsAre ∙ rw clean
+
+  pub answer-word : (i : ℕ) → i < taskCount bytes → wordAt answersLeft i ≡ answerOf (tableOf bytes) i
+  answer-word i h = ap (λ l. getD l i 0) answers-filled ∙ getD-filled (answerOf (tableOf bytes)) (taskCount bytes) i answers 0 h
+
+  rounds-word : (i : ℕ) → i < taskCount bytes → wordAt roundsLeft i ≡ roundsOf (tableOf bytes) i
+  rounds-word i h = ap (λ l. getD l i 0) rounds-filled ∙ getD-filled (roundsOf (tableOf bytes)) (taskCount bytes) i rounds 0 h
+
+  cost-low : (i : ℕ) → i < taskCount bytes → 1 ≤ taskOf (tasksOf bytes) i .cost
+  cost-low i h = tasks-fit bytes (right .records) .costLow i (omega (arith, tasks-count bytes))
+
+  result-is : v ≡ resultOf (answerOf (tableOf bytes)) (taskCount bytes)
+  unfolding verdictOf
+  result-is = o .verdictIs ∙ rw clean
+
+  written : Written bytes answers rounds v answersLeft roundsLeft
+  written =
+      record {
+        answersRight = λ i h. rw (answer-word i h) (answer-right (tableOf bytes) i (cost-low i h));
+        roundsRight = λ i h. rw (rounds-word i h) (rounds-right (tableOf bytes) i (cost-low i h));
+        answersLong = ap length answers-filled ∙ length-filled (answerOf (tableOf bytes)) (taskCount bytes) answers (room .answersLong);
+        roundsLong = ap length rounds-filled ∙ length-filled (roundsOf (tableOf bytes)) (taskCount bytes) rounds (room .roundsLong);
+        answersStay = λ i h.
+            ap (λ l. getD l i 0) answers-filled ∙ getD-filled-past (answerOf (tableOf bytes)) (taskCount bytes) i answers 0 h;
+        roundsStay = λ i h.
+            ap (λ l. getD l i 0) rounds-filled ∙ getD-filled-past (roundsOf (tableOf bytes)) (taskCount bytes) i rounds 0 h;
+        result =
+            result-transfer (answerOf (tableOf bytes)) (wordAt answersLeft) (taskCount bytes) v (λ i h. sym (answer-word i h))
+            (subst (ResultRight (answerOf (tableOf bytes)) (taskCount bytes)) (sym result-is)
+            (result-right (answerOf (tableOf bytes)) (taskCount bytes)));
+      }
+
+  module _ (calm : NoJitter (tasksOf bytes)) (bare : rowCount bytes ≡ 0) where
+    -- with no rows nothing blocks
+    no-blocking : (i : ℕ) → blockingOf (tableOf bytes) i ≡ 0
+    unfolding blockingOf tabulate largestOf
+    no-blocking i =
+        ap
+        (λ (m : ℕ).
+        largestOf (section (tasksOf bytes) (tabulate (rowAt bytes) m) (taskOf (tasksOf bytes) i .priority)) (tabulate (rowAt bytes) m))
+        bare
+
+    plain-answer : (i : ℕ) → i < taskCount bytes → answerOf (tableOf bytes) i ≡ responseOf (tasksOf bytes) i
+    unfolding answerOf
+    plain-answer i h =
+        rw (no-blocking i, add-zero (taskOf (tasksOf bytes) i .cost), calm i (omega (arith, tasks-count bytes)))
+
+    run-answers : (i : ℕ) → i < taskCount bytes → Answers (tasksOf bytes) i (wordAt answersLeft i)
+    run-answers i h =
+        rw (answer-word i h ∙ plain-answer i h)
+        (runs.demand3 (tasksOf bytes) (tasks-fit bytes (right .records)) calm i (omega (arith, tasks-count bytes)))
+
+pub demand2 : says.Demand2
+demand2 = written
+
+pub demand3 : says.Demand3
+demand3 = run-answers

@@ -1,0 +1,78 @@
+-- The worked tables: one test, which the checker computes over the whole list, and the rule at each row of it.
+-- Assumes nothing.
+use Prim.Native.Nat.{ℕ}
+use mathlib.Core.Path.{_≡_, refl}
+use mathlib.Core.Bool.{Bool, true, false}
+use mathlib.Core.List.{List, [], _∷_}
+use lib.Dec.{eqb}
+use lib.ListN.{length}
+use Rattle.model.specs.Choice.{both}
+use Rattle.model.specs.Lists.{tabulate, keep, sumOf, largestOf}
+use Rattle.model.specs.Search.{firstFrom}
+use Rattle.model.proofs.Tests.{both-true, clash}
+use Rattle.equation.specs.Demand.{demand}
+use Rattle.equation.specs.Sequence.{term}
+use Rattle.blocking.specs.Ceilings.{ceiling, blockingOf}
+use borrow.Author.Tests.{eqb-true}
+use Rattle.response.specs.Analysis.{answerOf, roundsOf}
+use Rattle.response.specs.Worked.{Said, nothing, says, Worked, workedTable, workedTables, Gives, WorkedRight, EachRight, WorkedTablesRight}
+
+sameWords : List ℕ → List ℕ → Bool
+sameWords [] [] = true
+sameWords [] (y ∷ ys) = false
+sameWords (x ∷ xs) [] = false
+sameWords (x ∷ xs) (y ∷ ys) = both (eqb x y) (sameWords xs ys)
+
+same-words : (xs ys : List ℕ) → sameWords xs ys ≡ true → xs ≡ ys
+unfolding sameWords
+same-words [] [] p = refl
+same-words [] (y ∷ ys) p = absurd (clash false p refl)
+same-words (x ∷ xs) [] p = absurd (clash false p refl)
+same-words (x ∷ xs) (y ∷ ys) p =
+    let b = both-true (eqb x y) (sameWords xs ys) p in
+    rw (eqb-true x y (b .0), same-words xs ys (b .1))
+
+gives : (ℕ → ℕ) → ℕ → Said → Bool
+gives f n nothing = true
+gives f n (says words) = sameWords (tabulate f n) words
+
+gives-means : (f : ℕ → ℕ) (n : ℕ) (said : Said) → gives f n said ≡ true → Gives f n said
+unfolding gives
+gives-means f n nothing p = tt
+gives-means f n (says words) p = same-words (tabulate f n) words p
+
+right : Worked → Bool
+right w =
+    both (gives (blockingOf (workedTable w)) (length (w .entries)) (w .blocking))
+    (both (gives (answerOf (workedTable w)) (length (w .entries)) (w .answers))
+    (gives (roundsOf (workedTable w)) (length (w .entries)) (w .rounds)))
+
+right-means : (w : Worked) → right w ≡ true → WorkedRight w
+unfolding right
+right-means w p =
+    let a = both-true (gives (blockingOf (workedTable w)) (length (w .entries)) (w .blocking)) _ p in
+    let b = both-true (gives (answerOf (workedTable w)) (length (w .entries)) (w .answers)) _ (a .1) in
+    record {
+      blockingSaid = gives-means _ _ _ (a .0);
+      answersSaid = gives-means _ _ _ (b .0);
+      roundsSaid = gives-means _ _ _ (b .1);
+    }
+
+allRight : List Worked → Bool
+allRight [] = true
+allRight (w ∷ ws) = both (right w) (allRight ws)
+
+each-right : (ws : List Worked) → allRight ws ≡ true → EachRight ws
+unfolding allRight
+each-right [] p = tt
+each-right (w ∷ ws) p =
+    let b = both-true (right w) (allRight ws) p in
+    (right-means w (b .0), each-right ws (b .1))
+
+computed : allRight workedTables ≡ true
+unfolding allRight right gives sameWords workedTables tabulate keep sumOf largestOf firstFrom demand term ceiling blockingOf answerOf roundsOf
+computed = refl
+
+pub workedTablesRight : WorkedTablesRight
+unfolding WorkedTablesRight
+workedTablesRight = each-right workedTables computed

@@ -1,0 +1,99 @@
+-- Demands 1 to 3 for the bytes of any table, as named statements about what `analyse` answers and leaves (`Outcome`, its contract).
+-- The proofs are in proofs/Demands.antt.
+-- Assumes nothing.
+use Prim.Native.Nat.{ℕ, zero, suc, _+_, _-_, _≤_, _<_}
+use mathlib.Core.Path.{_≡_}
+use mathlib.Core.Logic.{_⊎_}
+use mathlib.Core.List.{List}
+use lib.ListN.{length, getD}
+use Rattle.model.specs.Tables.{Table, taskOf, loadsOf}
+use Rattle.tables.specs.declared.Refusal.{Refusal}
+use Rattle.tables.specs.Layout.{taskCount, rowCount, tasksOf, tableOf}
+use Rattle.tables.specs.Meaning.{TableRight, RoomFor, Deserved}
+use Rattle.equation.specs.Laws.{IsSmallest}
+use Rattle.equation.specs.Sequence.{term}
+use Rattle.runs.specs.Jobs.{NoJitter}
+use Rattle.runs.specs.Statement.{Answers}
+use Rattle.response.specs.declared.Verdict.{Verdict}
+use Rattle.response.specs.declared.Verdict.the-variants.{Refused, Schedulable, Late}
+use Rattle.response.specs.Analysis.{baseOf}
+use Rattle.response.specs.Outcome.{Outcome}
+
+-- Demand 1: "Any bytes and any lent slices get an answer." `analyse` has no `requires` and is proved to return; what it returns is an
+-- `Outcome`, and there is one for all bytes and slices.
+pub record Demand1 : Type 0 where
+  pub answered : (bytes answers rounds : List ℕ) →
+      (verdict : Verdict) × (answersLeft : List ℕ) × (roundsLeft : List ℕ) × Outcome bytes answers rounds verdict answersLeft roundsLeft
+  -- "the first that applies is given, and it is given only when it applies"; "A refusal .. changes no word."
+  pub refused : (bytes answers rounds answersLeft roundsLeft : List ℕ) (refusal : Refusal) →
+      Outcome bytes answers rounds (Refused refusal) answersLeft roundsLeft →
+      Deserved bytes (length answers) (length rounds) refusal × (answersLeft ≡ answers) × (roundsLeft ≡ rounds)
+  -- "A table that breaks no rule is never refused."
+  pub accepted : (bytes answers rounds answersLeft roundsLeft : List ℕ) (refusal : Refusal) →
+      TableRight bytes → RoomFor bytes (length answers) (length rounds) →
+      ¬ Outcome bytes answers rounds (Refused refusal) answersLeft roundsLeft
+
+-- R is "w + J_i if such a w exists and w + J_i ≤ D_i; else 0", where w is "the smallest whole number of at least 1 with demand(i, w) = w"
+pub record AnswerRight (table : Table) (i R : ℕ) : Type 0 where
+  pub answered : 1 ≤ R →
+      (w : ℕ) × IsSmallest (baseOf table i) (loadsOf (table .tasks) i) w × (R ≡ w + taskOf (table .tasks) i .jitter)
+      × (R ≤ taskOf (table .tasks) i .deadline)
+  pub late : R ≡ 0 → (w : ℕ) → IsSmallest (baseOf table i) (loadsOf (table .tasks) i) w →
+      taskOf (table .tasks) i .deadline < w + taskOf (table .tasks) i .jitter
+
+-- the x of document 01: "x0 = C_i + B_i, and each next x is demand(i, x)"
+abbrev pub x : Table → ℕ → ℕ → ℕ
+x table i k = term (baseOf table i) (loadsOf (table .tasks) i) (baseOf table i) k
+
+-- "Rounds is the smallest k ≥ 1 with x_k = x_(k−1) or x_k + J_i > D_i", "at most D_i − J_i − x0 + 1 when x0 + J_i ≤ D_i, and 1 otherwise"
+pub record RoundsRight (table : Table) (i k : ℕ) : Type 0 where
+  pub positive : 1 ≤ k
+  pub last : (x table i k ≡ x table i (k - 1)) ⊎ (taskOf (table .tasks) i .deadline < x table i k + taskOf (table .tasks) i .jitter)
+  pub first : (j : ℕ) → 1 ≤ j → j < k →
+      (¬ (x table i j ≡ x table i (j - 1))) × (x table i j + taskOf (table .tasks) i .jitter ≤ taskOf (table .tasks) i .deadline)
+  pub within : x table i 0 + taskOf (table .tasks) i .jitter ≤ taskOf (table .tasks) i .deadline →
+      k ≤ taskOf (table .tasks) i .deadline - taskOf (table .tasks) i .jitter - x table i 0 + 1
+  pub otherwise : taskOf (table .tasks) i .deadline < x table i 0 + taskOf (table .tasks) i .jitter → k ≡ 1
+
+-- "the result is "schedulable" or "late" with the first place whose answer is 0"
+abbrev pub ResultRight : (ℕ → ℕ) → ℕ → Verdict → Type 0
+ResultRight answers n (Refused refusal) = ⊥
+ResultRight answers n Schedulable = (i : ℕ) → i < n → 1 ≤ answers i
+ResultRight answers n (Late place) =
+    (place .0 < n) × (answers (place .0) ≡ 0) × ((i : ℕ) → i < place .0 → 1 ≤ answers i)
+
+-- what stands at a place of a slice
+abbrev pub wordAt : List ℕ → ℕ → ℕ
+wordAt words i = getD words i 0
+
+-- "Otherwise words 0 to n−1 of each answer slice are written, answers in the first and rounds in the second, later words stay"
+pub record Written (bytes answers rounds : List ℕ) (verdict : Verdict) (answersLeft roundsLeft : List ℕ) : Type 0 where
+  pub answersRight : (i : ℕ) → i < taskCount bytes → AnswerRight (tableOf bytes) i (wordAt answersLeft i)
+  pub roundsRight : (i : ℕ) → i < taskCount bytes → RoundsRight (tableOf bytes) i (wordAt roundsLeft i)
+  pub answersLong : length answersLeft ≡ length answers
+  pub roundsLong : length roundsLeft ≡ length rounds
+  pub answersStay : (i : ℕ) → taskCount bytes ≤ i → wordAt answersLeft i ≡ wordAt answers i
+  pub roundsStay : (i : ℕ) → taskCount bytes ≤ i → wordAt roundsLeft i ≡ wordAt rounds i
+  pub result : ResultRight (wordAt answersLeft) (taskCount bytes) verdict
+
+-- Demand 2, for every table that is not refused.
+abbrev pub Demand2 : Type 0
+Demand2 =
+    (bytes answers rounds : List ℕ) (verdict : Verdict) (answersLeft roundsLeft : List ℕ) →
+    Outcome bytes answers rounds verdict answersLeft roundsLeft → TableRight bytes → RoomFor bytes (length answers) (length rounds) →
+    Written bytes answers rounds verdict answersLeft roundsLeft
+
+-- "show that no second answer satisfies it": the verdict and every word of both slices are determined
+abbrev pub NoSecondAnswer : Type 0
+NoSecondAnswer =
+    (bytes answers rounds : List ℕ) (verdict other : Verdict) (answersLeft roundsLeft answersOther roundsOther : List ℕ) →
+    Outcome bytes answers rounds verdict answersLeft roundsLeft → Outcome bytes answers rounds other answersOther roundsOther →
+    (verdict ≡ other) × (answersLeft ≡ answersOther) × (roundsLeft ≡ roundsOther)
+
+-- Demand 3: "With no jitter and no critical sections" the word that `analyse` leaves is right about every legal run.
+abbrev pub Demand3 : Type 0
+Demand3 =
+    (bytes answers rounds : List ℕ) (verdict : Verdict) (answersLeft roundsLeft : List ℕ) →
+    Outcome bytes answers rounds verdict answersLeft roundsLeft → TableRight bytes → RoomFor bytes (length answers) (length rounds) →
+    NoJitter (tasksOf bytes) → rowCount bytes ≡ 0 →
+    (i : ℕ) → i < taskCount bytes → Answers (tasksOf bytes) i (wordAt answersLeft i)

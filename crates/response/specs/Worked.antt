@@ -1,0 +1,96 @@
+-- The worked tables that document 01 marks *, as rows of one list under one statement.
+-- Assumes nothing.
+use Prim.Native.Nat.{ℕ, zero, suc}
+use mathlib.Core.Path.{_≡_}
+use mathlib.Core.List.{List, [], _∷_}
+use lib.ListN.{length}
+use Rattle.model.specs.Lists.{tabulate}
+use Rattle.model.specs.Tables.{Task, Row, Table}
+use Rattle.blocking.specs.Ceilings.{blockingOf}
+use Rattle.response.specs.Analysis.{answerOf, roundsOf}
+
+-- "entries are (T, C, D), with J 0 and no rows unless given"
+pub record Entry : Type 0 where
+  pub period : ℕ
+  pub cost : ℕ
+  pub deadline : ℕ
+  pub jitter : ℕ
+
+abbrev pub entry : ℕ → ℕ → ℕ → Entry
+entry period cost deadline = record { period = period; cost = cost; deadline = deadline; jitter = 0 }
+
+abbrev pub delayed : ℕ → ℕ → ℕ → ℕ → Entry
+delayed period cost deadline jitter = record { period = period; cost = cost; deadline = deadline; jitter = jitter }
+
+abbrev pub row : ℕ → ℕ → ℕ → Row
+row place semaphore longest = record { place = place; semaphore = semaphore; longest = longest }
+
+-- "Priorities fall down each list"
+abbrev pub prioritised : List Entry → List Task
+prioritised [] = []
+prioritised (e ∷ es) =
+    record
+    { priority = suc (length es); period = e .period; cost = e .cost; deadline = e .deadline; jitter = e .jitter }
+    ∷ prioritised es
+
+-- what the document says, where it says it
+pub data Said : Type 0 where
+  nothing : Said
+  says : List ℕ → Said
+
+pub record Worked : Type 0 where
+  pub entries : List Entry
+  pub rows : List Row
+  pub blocking : Said
+  pub answers : Said
+  pub rounds : Said
+
+abbrev pub plain : List Entry → List ℕ → Worked
+plain entries answers = record { entries = entries; rows = []; blocking = nothing; answers = says answers; rounds = nothing }
+
+abbrev pub counted : List Entry → List ℕ → List ℕ → Worked
+counted entries answers rounds =
+    record { entries = entries; rows = []; blocking = nothing; answers = says answers; rounds = says rounds }
+
+abbrev pub workedTable : Worked → Table
+workedTable w = record { tasks = prioritised (w .entries); rows = w .rows }
+
+unfoldable pub workedTables : List Worked
+workedTables =
+    plain (entry 1 1 1 ∷ []) (1 ∷ [])
+    ∷ plain (entry 9 5 5 ∷ []) (5 ∷ [])
+    ∷ plain (entry 9 6 5 ∷ []) (0 ∷ [])
+    ∷ plain (entry 2 1 2 ∷ entry 6 3 6 ∷ []) (1 ∷ 6 ∷ [])
+    ∷ counted (entry 4 1 4 ∷ entry 6 2 6 ∷ entry 10 3 10 ∷ []) (1 ∷ 3 ∷ 10 ∷ []) (1 ∷ 2 ∷ 5 ∷ [])
+    ∷ plain (entry 3 1 3 ∷ entry 5 1 5 ∷ entry 6 1 6 ∷ entry 10 2 10 ∷ []) (1 ∷ 2 ∷ 3 ∷ 9 ∷ [])
+    ∷ plain (entry 10 1 3 ∷ entry 6 2 4 ∷ entry 5 1 5 ∷ []) (1 ∷ 3 ∷ 4 ∷ [])
+    ∷ plain (entry 5 1 5 ∷ entry 6 2 4 ∷ entry 10 1 3 ∷ []) (1 ∷ 3 ∷ 0 ∷ [])
+    ∷ plain (entry 6 4 6 ∷ entry 12 4 12 ∷ []) (4 ∷ 12 ∷ [])
+    ∷ plain (entry 6 3 6 ∷ entry 12 8 12 ∷ []) (3 ∷ 0 ∷ [])
+    ∷ counted (delayed 30 10 20 10 ∷ entry 1000 15 25 ∷ []) (20 ∷ 0 ∷ []) (1 ∷ 2 ∷ [])
+    ∷ record {
+      entries = entry 10 2 5 ∷ entry 20 3 12 ∷ entry 40 10 40 ∷ entry 100 4 50 ∷ [];
+      rows = row 1 1 1 ∷ row 1 2 1 ∷ row 2 2 5 ∷ row 3 1 2 ∷ [];
+      blocking = says (0 ∷ 5 ∷ 2 ∷ 0 ∷ []);
+      answers = says (2 ∷ 10 ∷ 19 ∷ 26 ∷ []);
+      rounds = nothing;
+    }
+    ∷ []
+
+-- a function of the place gives what is said, task by task
+abbrev pub Gives : (ℕ → ℕ) → ℕ → Said → Type 0
+Gives f n nothing = Unit {0}
+Gives f n (says words) = tabulate f n ≡ words
+
+pub record WorkedRight (w : Worked) : Type 0 where
+  pub blockingSaid : Gives (blockingOf (workedTable w)) (length (w .entries)) (w .blocking)
+  pub answersSaid : Gives (answerOf (workedTable w)) (length (w .entries)) (w .answers)
+  pub roundsSaid : Gives (roundsOf (workedTable w)) (length (w .entries)) (w .rounds)
+
+abbrev pub EachRight : List Worked → Type 0
+EachRight [] = Unit {0}
+EachRight (w ∷ ws) = WorkedRight w × EachRight ws
+
+-- Every worked table has the blocking, the answers and the rounds that the document gives.
+unfoldable pub WorkedTablesRight : Type 0
+WorkedTablesRight = EachRight workedTables
