@@ -7,11 +7,10 @@ use mathlib.Core.Bool.{true, false}
 use mathlib.Core.List.{List, _++_}
 use lib.Dec.{leb}
 use lib.ListN.{length, drop}
-use borrow.Author.Tests.{le-leb, lt-leb}
+use borrow.Author.Tests.{le-leb}
 use Rattle.model.specs.Choice.{both}
 use Rattle.model.specs.Lists.{filled}
 use Rattle.model.proofs.Lists.{tabulate-same}
-use Rattle.model.proofs.Tests.{both-pass, both-fail}
 use Rattle.model.proofs.First.{first-same}
 use Rattle.tables.specs.declared.Refusal.{Refusal}
 use Rattle.tables.specs.declared.Refusal.the-variants.{NoRoom}
@@ -49,18 +48,12 @@ module _ (bytes answers rounds : List ℕ) where
     rows-refused r e = refused r (rw (head, records, sym e))
 
     module _ (rows : rowsCheck bytes ≡ check.Clean) (n : ℕ) (counted : n ≡ taskCount bytes) where
-      no-room : both (leb (taskCount bytes) (length answers)) (leb (taskCount bytes) (length rounds)) ≡ false →
+      pub no-room : both (leb n (length answers)) (leb n (length rounds)) ≡ false →
           Outcome bytes answers rounds (verdict.Refused NoRoom) answers rounds
       unfolding tableCheck firstIn orElse unless roomCheck
-      no-room e = refused NoRoom (rw (head, records, rows, e))
-
-      pub answers-short : length answers < n → Outcome bytes answers rounds (verdict.Refused NoRoom) answers rounds
-      answers-short h = no-room (rw (lt-leb (taskCount bytes) (length answers) (omega (arith, counted))))
-
-      pub rounds-short : length rounds < n → Outcome bytes answers rounds (verdict.Refused NoRoom) answers rounds
-      rounds-short h =
-          no-room
-          (both-fail (leb (taskCount bytes) (length answers)) _ (lt-leb (taskCount bytes) (length rounds) (omega (arith, counted))))
+      no-room e =
+          refused NoRoom
+          (rw (head, records, rows, ap (λ (k : ℕ). both (leb k (length answers)) (leb k (length rounds))) (sym counted) ∙ e))
 
       module _ (answersLong : n ≤ length answers) (roundsLong : n ≤ length rounds) where
         accepted : tableCheck bytes (length answers) (length rounds) ≡ check.Clean

@@ -3,17 +3,45 @@
 use Prim.Native.Nat.{ℕ, _+_, _*_, _≤_, _<_}
 use native.Mathlib.Omega.{arith}
 use mathlib.Core.Path.{_≡_, refl, sym, _∙_, ap}
+use mathlib.Core.Bool.{true}
 use mathlib.Core.List.{List}
+use lib.Dec.{leb}
+use borrow.Author.Tests.{leb-true}
+use Rattle.model.specs.Choice.{both}
+use Rattle.model.specs.Search.{firstOf}
+use Rattle.model.proofs.Tests.{both-true}
+use Rattle.tables.specs.Refusals.{isClean}
 use lib.ListN.{length, getD}
 use Rattle.model.specs.Lists.{filled}
 use Rattle.tables.specs.declared.Check.the-variants.{Clean}
 use Rattle.tables.specs.Layout.{taskCount, rowCount, recordStart, rowStart, priorityIn, periodIn, costIn, deadlineIn, jitterIn, placeIn, semaphoreIn, longestIn}
-use Rattle.tables.specs.Checks.{headCheck, recordsCheck, rowsCheck, recordsRead, rowsRead}
+use Rattle.tables.specs.Checks.{headCheck, recordsCheck, rowCheck, rowsCheck, recordsRead, rowsRead}
 use Rattle.tables.specs.Reading.{RecordsFit, RowsFit}
 use Rattle.tables.specs.Meaning.{HeadRight}
 use Rattle.tables.proofs.CheckLaws.{head-right, records-all, rows-all}
 use Rattle.response.specs.Stages.{Holds, RecordsHeld, RowsRead}
 use Rattle.response.proofs.DecodedLaws.{holds-filled}
+
+-- what the test for room says
+pub room-is : (n answers rounds : ℕ) → both (leb n answers) (leb n rounds) ≡ true → (n ≤ answers) × (n ≤ rounds)
+room-is n answers rounds p =
+    let b = both-true (leb n answers) (leb n rounds) p in
+    (leb-true n answers (b .0), leb-true n rounds (b .1))
+
+-- a table with no rows has none to read, whatever stands in the slices
+pub nothing-held : (words : List ℕ) (f : ℕ → ℕ) → Holds words 0 f
+nothing-held words f = record { long = omega arith; read = λ i h. absurd (omega arith) }
+
+pub no-rows : (bytes places semaphores longest : List ℕ) → rowCount bytes ≡ 0 → RowsRead bytes 0 places semaphores longest
+unfolding rowsCheck firstOf
+no-rows bytes places semaphores longest e =
+    record {
+      rows = ap (firstOf isClean Clean (rowCheck bytes)) e;
+      counted = sym e;
+      placesHeld = nothing-held places (placeIn bytes);
+      semaphoresHeld = nothing-held semaphores (semaphoreIn bytes);
+      longestHeld = nothing-held longest (longestIn bytes);
+    }
 
 module _ (bytes : List ℕ) (clean : headCheck bytes ≡ Clean) where
   right : HeadRight bytes

@@ -1,7 +1,10 @@
 // The stages behind a right head: the records, the rows, then the answers. Each refuses before a word is written.
 ghost use mathlib.Core.Path.{_≡_};
 ghost use Prim.Native.Nat.{_≤_};
+ghost use lib.Dec.{leb};
 ghost use lib.ListN.{length};
+ghost use Rattle.model.specs.Choice.{both};
+ghost use Rattle.tables.specs.Layout.{rowCount};
 ghost use Rattle.tables.specs.declared.Check.the-variants as check;
 ghost use Rattle.tables.specs.Checks.{headCheck};
 ghost use Rattle.response.specs.Outcome.{Outcome};
@@ -48,7 +51,17 @@ pub fn after_head(table: &[u8], answers: &mut [u32], rounds: &mut [u32]) -> Verd
     }
 }
 
-// The records are right: reads the rows, then looks at the room.
+// Is there a word for each of n tasks in both slices?
+fn room(n: usize, answers: usize, rounds: usize) -> bool
+    ensures { λ r. ⌜ r ≡ both (leb n answers) (leb n rounds) ⌝ }
+{
+    if answers < n {
+        return false;
+    }
+    n <= rounds
+}
+
+// The records are right: most tables have no rows, and then nothing is made ready for them.
 pub fn after_records(
     table: &[u8],
     n: usize,
@@ -64,6 +77,85 @@ pub fn after_records(
     ensures { λ r. ⌜ Outcome (now (table .entry)) (now (answers .entry)) (now (rounds .entry)) r (now (answers .exit)) (now (rounds .exit)) ⌝ }
 {
     let m = count(table[4]);
+    if m == 0 {
+        return without_rows(
+            table,
+            n,
+            priorities,
+            periods,
+            costs,
+            deadlines,
+            jitters,
+            answers,
+            rounds,
+        );
+    }
+    with_rows(
+        table,
+        n,
+        m,
+        priorities,
+        periods,
+        costs,
+        deadlines,
+        jitters,
+        answers,
+        rounds,
+    )
+}
+
+// No rows: looks at the room, and answers with nothing that blocks.
+pub fn without_rows(
+    table: &[u8],
+    n: usize,
+    priorities: &[u8],
+    periods: &[u32],
+    costs: &[u32],
+    deadlines: &[u32],
+    jitters: &[u32],
+    answers: &mut [u32],
+    rounds: &mut [u32],
+) -> Verdict
+    requires { ⌜ RecordsHeld (now table) n (now priorities) (now periods) (now costs) (now deadlines) (now jitters) ⌝ }
+    requires { ⌜ rowCount (now table) ≡ 0 ⌝ }
+    ensures { λ r. ⌜ Outcome (now (table .entry)) (now (answers .entry)) (now (rounds .entry)) r (now (answers .exit)) (now (rounds .exit)) ⌝ }
+{
+    if !room(n, answers.len(), rounds.len()) {
+        return Verdict::Refused(Refusal::NoRoom);
+    }
+    answer_all(
+        priorities,
+        periods,
+        costs,
+        deadlines,
+        jitters,
+        n,
+        &priorities[..0],
+        &priorities[..0],
+        &periods[..0],
+        0,
+        answers,
+        rounds,
+    )
+}
+
+// Reads the m rows, then looks at the room.
+pub fn with_rows(
+    table: &[u8],
+    n: usize,
+    m: usize,
+    priorities: &[u8],
+    periods: &[u32],
+    costs: &[u32],
+    deadlines: &[u32],
+    jitters: &[u32],
+    answers: &mut [u32],
+    rounds: &mut [u32],
+) -> Verdict
+    requires { ⌜ RecordsHeld (now table) n (now priorities) (now periods) (now costs) (now deadlines) (now jitters) ⌝ }
+    requires { ⌜ m ≡ rowCount (now table) ⌝ }
+    ensures { λ r. ⌜ Outcome (now (table .entry)) (now (answers .entry)) (now (rounds .entry)) r (now (answers .exit)) (now (rounds .exit)) ⌝ }
+{
     let mut places = [0u8; 64];
     let mut semaphores = [0u8; 64];
     let mut longest = [0u32; 64];
@@ -78,10 +170,7 @@ pub fn after_records(
     );
     match checked {
         Check::Clean => {
-            if answers.len() < n {
-                return Verdict::Refused(Refusal::NoRoom);
-            }
-            if rounds.len() < n {
+            if !room(n, answers.len(), rounds.len()) {
                 return Verdict::Refused(Refusal::NoRoom);
             }
             after_rows(
