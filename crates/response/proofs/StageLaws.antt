@@ -13,11 +13,15 @@ use Rattle.model.proofs.Tests.{both-true}
 use Rattle.tables.specs.Refusals.{isClean}
 use lib.ListN.{length, getD}
 use Rattle.model.specs.Lists.{filled}
-use Rattle.tables.specs.declared.Check.the-variants.{Clean}
+use Rattle.tables.specs.declared.Refusal.{Refusal}
+use Rattle.tables.specs.declared.records.TaskRecord.{TaskRecord}
+use Rattle.tables.specs.declared.records.First.the-variants as first
+use Rattle.tables.specs.declared.Check.the-variants.{Clean, Refused}
 use Rattle.tables.specs.Layout.{taskCount, rowCount, recordStart, rowStart, priorityIn, periodIn, costIn, deadlineIn, jitterIn, placeIn, semaphoreIn, longestIn}
 use Rattle.tables.specs.Checks.{headCheck, recordsCheck, rowCheck, rowsCheck, recordsRead, rowsRead}
-use Rattle.tables.specs.Reading.{RecordsFit, RowsFit}
+use Rattle.tables.specs.Reading.{RecordsFit, RowsFit, firstRecord}
 use Rattle.tables.specs.Meaning.{HeadRight}
+use Rattle.tables.proofs.RecordLaws.{first-means, first-refuses}
 use Rattle.tables.proofs.CheckLaws.{head-right, records-all, rows-all}
 use Rattle.response.specs.Stages.{Holds, RecordsHeld, RowsRead}
 use Rattle.response.proofs.DecodedLaws.{holds-filled}
@@ -50,6 +54,14 @@ module _ (bytes : List ℕ) (clean : headCheck bytes ≡ Clean) where
   pub long-enough : 5 ≤ length bytes
   long-enough = right .longEnough
 
+  -- the first record stands whole in the table
+  pub first-within : 22 ≤ length bytes
+  first-within = omega (arith, right .counts .tasksLow, right .lengths .summed)
+
+  -- a first record that is refused refuses the records
+  pub first-wrong : (r : Refusal) → first.Refused r ≡ firstRecord bytes → Refused r ≡ recordsCheck bytes
+  first-wrong r e = first-refuses bytes r (right .counts .tasksLow) e
+
   module _ (n : ℕ) (counted : n ≡ taskCount bytes) where
     few-tasks : n ≤ 32
     few-tasks = omega (arith, right .counts .tasksHigh)
@@ -65,11 +77,22 @@ module _ (bytes : List ℕ) (clean : headCheck bytes ≡ Clean) where
     module _ (priorities periods costs deadlines jitters : List ℕ) (prioritiesLong : length priorities ≡ 32)
         (periodsLong : length periods ≡ 32) (costsLong : length costs ≡ 32) (deadlinesLong : length deadlines ≡ 32)
         (jittersLong : length jitters ≡ 32) where
-      pub records-fit : RecordsFit bytes n priorities periods costs deadlines jitters
-      records-fit =
+      pub records-fit : (found : TaskRecord) → first.Read found ≡ firstRecord bytes →
+          getD priorities 0 0 ≡ found .priority .0 → getD periods 0 0 ≡ found .period .0 → getD costs 0 0 ≡ found .cost .0 →
+          getD deadlines 0 0 ≡ found .deadline .0 → getD jitters 0 0 ≡ found .jitter .0 →
+          RecordsFit bytes n priorities periods costs deadlines jitters
+      records-fit found e priority period cost deadline jitter =
+          let f = first-means bytes found e in
           record {
             counted = counted;
+            some = omega (arith, right .counts .tasksLow);
             within = records-within;
+            firstClean = f .0;
+            firstPriority = priority ∙ ap (λ (r : TaskRecord). r .priority .0) (f .1);
+            firstPeriod = period ∙ ap (λ (r : TaskRecord). r .period .0) (f .1);
+            firstCost = cost ∙ ap (λ (r : TaskRecord). r .cost .0) (f .1);
+            firstDeadline = deadline ∙ ap (λ (r : TaskRecord). r .deadline .0) (f .1);
+            firstJitter = jitter ∙ ap (λ (r : TaskRecord). r .jitter .0) (f .1);
             prioritiesLong = omega (arith, few-tasks);
             periodsLong = omega (arith, few-tasks);
             costsLong = omega (arith, few-tasks);

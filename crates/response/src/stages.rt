@@ -6,7 +6,9 @@ ghost use lib.ListN.{length};
 ghost use Rattle.model.specs.Choice.{both};
 ghost use Rattle.tables.specs.Layout.{rowCount};
 ghost use Rattle.tables.specs.declared.Check.the-variants as check;
+ghost use Rattle.tables.specs.declared.records.First.the-variants as found;
 ghost use Rattle.tables.specs.Checks.{headCheck};
+ghost use Rattle.tables.specs.Reading.{firstRecord};
 ghost use Rattle.response.specs.Outcome.{Outcome};
 ghost use Rattle.response.specs.Stages.{RecordsHeld, RowsRead};
 use crate::Verdict;
@@ -14,10 +16,30 @@ use crate::answering::answer_all;
 use tables::Check;
 use tables::Refusal;
 use tables::fields::count;
+use tables::records::First;
+use tables::records::TaskRecord;
 
-// The head is right: reads the records.
+// The head is right: looks at the first record before room is made for all.
 pub fn after_head(table: &[u8], answers: &mut [u32], rounds: &mut [u32]) -> Verdict
     requires { ⌜ headCheck (now table) ≡ check.Clean ⌝ }
+    ensures { λ r. ⌜ Outcome (now (table .entry)) (now (answers .entry)) (now (rounds .entry)) r (now (answers .exit)) (now (rounds .exit)) ⌝ }
+{
+    let found = tables::records::read_first(table);
+    match found {
+        First::Read(task) => after_first(table, task, answers, rounds),
+        First::Refused(refusal) => Verdict::Refused(refusal),
+    }
+}
+
+// The first record is right: reads the others.
+pub fn after_first(
+    table: &[u8],
+    first: TaskRecord,
+    answers: &mut [u32],
+    rounds: &mut [u32],
+) -> Verdict
+    requires { ⌜ headCheck (now table) ≡ check.Clean ⌝ }
+    requires { ⌜ found.Read first ≡ firstRecord (now table) ⌝ }
     ensures { λ r. ⌜ Outcome (now (table .entry)) (now (answers .entry)) (now (rounds .entry)) r (now (answers .exit)) (now (rounds .exit)) ⌝ }
 {
     let n = count(table[3]);
@@ -26,7 +48,12 @@ pub fn after_head(table: &[u8], answers: &mut [u32], rounds: &mut [u32]) -> Verd
     let mut costs = [0u32; 32];
     let mut deadlines = [0u32; 32];
     let mut jitters = [0u32; 32];
-    let checked = tables::records::read_all(
+    priorities[0] = first.priority.0;
+    periods[0] = first.period.0;
+    costs[0] = first.cost.0;
+    deadlines[0] = first.deadline.0;
+    jitters[0] = first.jitter.0;
+    let checked = tables::records::read_rest(
         table,
         n,
         &mut priorities,

@@ -80,7 +80,7 @@ module _ (bytes : List ℕ) where
       (both-clean _ _ (unless-pass (countsFit (taskCount bytes) (rowCount bytes)) _ (meaning.counts-hold bytes (h .counts)))
       (both-clean _ _ (unless-pass (lengthsAgree bytes) _ (meaning.lengths-hold bytes (h .lengths))) refl)))
 
-  record-right : (i : ℕ) → recordCheck bytes i ≡ Clean → NumbersInRange bytes i × PriorityInOrder bytes i
+  pub record-right : (i : ℕ) → recordCheck bytes i ≡ Clean → NumbersInRange bytes i × PriorityInOrder bytes i
   unfolding recordCheck
   record-right i e =
       let a = first-clean (unless (numbersFit (taskAt bytes i)) (NumberOutOfRange (at i))) _ e in

@@ -1,5 +1,5 @@
 pub mod HeadLaws
-pub mod RecordLaws
-pub mod RowLaws
 pub mod MeaningLaws
 pub mod CheckLaws
+pub mod RecordLaws
+pub mod RowLaws

@@ -10,17 +10,49 @@ use Rattle.model.specs.Tables.{Task, Row}
 use Rattle.tables.specs.declared.records.TaskRecord.{TaskRecord}
 use Rattle.tables.specs.declared.rows.RowRecord.{RowRecord}
 use Rattle.tables.specs.Rules.{rowHolds}
-use Rattle.tables.specs.Layout.{taskCount, rowCount, recordStart, rowStart, costIn}
+use Rattle.tables.specs.declared.records.First.{First}
+use Rattle.tables.specs.declared.records.First.the-variants as first
+use Rattle.tables.specs.declared.records.First.the-variants.{Read}
+use Rattle.tables.specs.declared.Check.{Check}
+use Rattle.tables.specs.declared.Check.the-variants.{Clean, Refused}
+use Rattle.tables.specs.Checks.{recordCheck}
+use Rattle.tables.specs.Layout.{taskCount, rowCount, recordStart, rowStart, taskAt, priorityIn, periodIn, costIn, deadlineIn, jitterIn}
 
 abbrev pub taskFrom : TaskRecord → Task
 taskFrom r =
     record
     { priority = r .priority .0; period = r .period .0; cost = r .cost .0; deadline = r .deadline .0; jitter = r .jitter .0 }
 
--- n is the number of records, they end within the bytes, and each slice has room for them
+abbrev pub recordOf : Task → TaskRecord
+recordOf t =
+    record {
+      priority = record { 0 = t .priority };
+      period = record { 0 = t .period };
+      cost = record { 0 = t .cost };
+      deadline = record { 0 = t .deadline };
+      jitter = record { 0 = t .jitter };
+    }
+
+-- the first record, where its check is clean
+abbrev pub firstFor : Check → TaskRecord → First
+firstFor Clean record₀ = Read record₀
+firstFor (Refused r) record₀ = first.Refused r
+
+unfoldable pub firstRecord : List ℕ → First
+firstRecord bytes = firstFor (recordCheck bytes 0) (recordOf (taskAt bytes 0))
+
+-- n is the number of records, at least 1; the first is clean and stands in word 0 of each slice; the records end within the
+-- bytes, and each slice has room for them
 pub record RecordsFit (bytes : List ℕ) (n : ℕ) (priorities periods costs deadlines jitters : List ℕ) : Type 0 where
   pub counted : n ≡ taskCount bytes
+  pub some : 1 ≤ n
   pub within : recordStart n ≤ length bytes
+  pub firstClean : recordCheck bytes 0 ≡ Clean
+  pub firstPriority : getD priorities 0 0 ≡ priorityIn bytes 0
+  pub firstPeriod : getD periods 0 0 ≡ periodIn bytes 0
+  pub firstCost : getD costs 0 0 ≡ costIn bytes 0
+  pub firstDeadline : getD deadlines 0 0 ≡ deadlineIn bytes 0
+  pub firstJitter : getD jitters 0 0 ≡ jitterIn bytes 0
   pub prioritiesLong : n ≤ length priorities
   pub periodsLong : n ≤ length periods
   pub costsLong : n ≤ length costs

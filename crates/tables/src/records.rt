@@ -6,7 +6,7 @@ ghost use Rattle.model.specs.Lists.{filled};
 ghost use Rattle.tables.specs.Layout.{recordFrom, priorityIn, periodIn, costIn, deadlineIn, jitterIn};
 ghost use Rattle.tables.specs.Rules.{numbersFit};
 ghost use Rattle.tables.specs.Checks.{recordsCheck, recordsRead};
-ghost use Rattle.tables.specs.Reading.{taskFrom, RecordsFit};
+ghost use Rattle.tables.specs.Reading.{taskFrom, firstRecord, RecordsFit};
 use crate::Check;
 use crate::Refusal;
 use crate::fields::wide;
@@ -55,8 +55,30 @@ pub fn numbers_fit(task: TaskRecord) -> bool
     within(0, 1000000, task.jitter.0)
 }
 
-// Takes the n records in order, each tested for 5 and then 6, and keeps the fields of those before the first fault.
-pub fn read_all(
+// The first record, or why it is refused.
+pub enum First {
+    Read(TaskRecord),
+    Refused(Refusal),
+}
+
+// Tests the first record, which every table has, for 5 and then 6, before any room is made for records.
+pub fn read_first(table: &[u8]) -> First
+    requires { ⌜ 22 ≤ length (now table) ⌝ }
+    ensures { λ r. ⌜ r ≡ firstRecord (now (table .entry)) ⌝ }
+{
+    let task = read(table, 5);
+    if !numbers_fit(task) {
+        return First::Refused(Refusal::NumberOutOfRange(Place(0)));
+    }
+    if task.priority.0 == 0 {
+        return First::Refused(Refusal::PriorityOutOfOrder(Place(0)));
+    }
+    First::Read(task)
+}
+
+// Takes the other records in order, each tested for 5 and then 6, and keeps the fields of those before the first fault. Word 0 of
+// each slice holds the first record.
+pub fn read_rest(
     table: &[u8],
     n: usize,
     priorities: &mut [u8],
@@ -73,10 +95,9 @@ pub fn read_all(
     ensures { λ r. ⌜ now (deadlines .exit) ≡ filled (deadlineIn (now (table .entry))) (recordsRead (now (table .entry))) (now (deadlines .entry)) ⌝ }
     ensures { λ r. ⌜ now (jitters .exit) ≡ filled (jitterIn (now (table .entry))) (recordsRead (now (table .entry))) (now (jitters .entry)) ⌝ }
 {
-    // above every priority: no record stands before the first
-    let mut before: u32 = 256;
-    let mut at = 5;
-    for i in 0..n {
+    let mut before = wide(priorities[0]);
+    let mut at = 22;
+    for i in 1..n {
         let task = read(table, at);
         if !numbers_fit(task) {
             return Check::Refused(Refusal::NumberOutOfRange(Place(i)));

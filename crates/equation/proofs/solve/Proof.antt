@@ -1,8 +1,7 @@
 -- `equation::solve` meets its contract: each turn is one round of the written sequence, by the laws of `SolverLaws`.
 -- Assumes nothing.
-use Prim.Native.Nat.{_+_, _-_, _≤_}
+use Prim.Native.Nat.{_-_}
 use native.Mathlib.Omega.{arith}
-use mathlib.Core.Path.{_≡_}
 use Rattle.equation.specs.Slices.{loads}
 use Rattle.equation.proofs.SolverLaws.{Turn, turn-first, start-late, turn-late, turn-found, turn-on, gained}
 use Rattle.equation.proofs.solve.Statement.{statement}

@@ -1,63 +1,23 @@
--- `response::stages::after_head` meets its contract: the records are read into five slices of 32 words.
+-- `response::stages::after_head` meets its contract: a wrong first record is refused, and a right one goes on.
 -- Assumes nothing.
-use native.Mathlib.Omega.{arith}
-use mathlib.Core.Path.{refl, sym, _∙_}
+use mathlib.Core.Path.{sym, _∙_}
 use Rattle.response.proofs.OutcomeLaws.{records-refused}
-use Rattle.response.proofs.StageLaws.{long-enough, records-fit, records-held}
+use Rattle.response.proofs.StageLaws.{first-within, first-wrong}
 use borrow.Author.Needs.{needs}
 use Rattle.response.proofs.stages.after_head.Statement.{statement}
 use Rattle.response.proofs.stages.after_head.Tie as tie
 
-shared-slice-read-count : tie.Need-shared-slice-read-count
-shared-slice-read-count c = omega (arith, long-enough _ (c .before .before .before .before .pre))
+read-first-requires : tie.Need-read-first-requires
+read-first-requires c κs = first-within _ (c .before .before .before .pre)
 
-count-requires : tie.Need-count-requires
-count-requires c κs = search needs
+enum-known-found : tie.Need-enum-known-found
+enum-known-found c = search needs
 
-slice-aggregate-read-all : tie.Need-slice-aggregate-read-all
-slice-aggregate-read-all c = search needs
+after-first-requires : tie.Need-after-first-requires
+after-first-requires c κs = (c .before .before .before .before .before .before .before .before .before .pre, sym (c .before .before .before .found .given .1) ∙ c .before .before .before .before .before .read-first .ensures)
 
-slice-aggregate-read-all-2 : tie.Need-slice-aggregate-read-all-2
-slice-aggregate-read-all-2 c = search needs
-
-slice-aggregate-read-all-3 : tie.Need-slice-aggregate-read-all-3
-slice-aggregate-read-all-3 c = search needs
-
-slice-aggregate-read-all-4 : tie.Need-slice-aggregate-read-all-4
-slice-aggregate-read-all-4 c = search needs
-
-slice-aggregate-read-all-5 : tie.Need-slice-aggregate-read-all-5
-slice-aggregate-read-all-5 c = search needs
-
-read-all-requires : tie.Need-read-all-requires
-read-all-requires c κs = records-fit _ (c .before .before .before .before .before .before .before .before .before .before .pre) _ (c .before .before .before .before .before .count .ensures .0) _ _ _ _ _ refl refl refl refl refl
-
-enum-told : tie.Need-enum-told
-enum-told c = search needs
-
-slice-aggregate-after-records : tie.Need-slice-aggregate-after-records
-slice-aggregate-after-records c = search needs
-
-slice-aggregate-after-records-2 : tie.Need-slice-aggregate-after-records-2
-slice-aggregate-after-records-2 c = search needs
-
-slice-aggregate-after-records-3 : tie.Need-slice-aggregate-after-records-3
-slice-aggregate-after-records-3 c = search needs
-
-slice-aggregate-after-records-4 : tie.Need-slice-aggregate-after-records-4
-slice-aggregate-after-records-4 c = search needs
-
-slice-aggregate-after-records-5 : tie.Need-slice-aggregate-after-records-5
-slice-aggregate-after-records-5 c = search needs
-
-after-records-requires : tie.Need-after-records-requires
-after-records-requires c κs =
-    let e = c .before .before .before .before .before .before .before .before .before .before .before .before .before .before .read-all .ensures in
-    records-held _ (c .before .before .before .before .before .before .before .before .before .before .before .before .before .before .before .before .before .before .before .before .before .before .before .before .before .pre) _ (c .before .before .before .before .before .before .before .before .before .before .before .before .before .before .before .before .before .before .before .before .count .ensures .0) _ _ _ _ _ refl refl refl refl refl _ _ _ _ _ (sym (e .0) ∙ c .before .before .before .before .before .before .before .enum-told .given .1)
-    (e .1 .0) (e .1 .1 .0) (e .1 .1 .1 .0) (e .1 .1 .1 .1 .0) (e .1 .1 .1 .1 .1)
-
-enum-known-checked : tie.Need-enum-known-checked
-enum-known-checked c = search needs
+enum-known-found-2 : tie.Need-enum-known-found-2
+enum-known-found-2 c = search needs
 
 same-length : tie.Need-same-length
 same-length c = search needs
@@ -69,28 +29,16 @@ returns : tie.Need-returns
 returns c = search needs
 
 returns-2 : tie.Need-returns-2
-returns-2 c = records-refused _ _ _ _ (c .before .before .before .before .before .before .before .before .before .before .before .before .before .before .before .before .before .before .before .pre) (sym (c .before .checked .given .1) ∙ c .before .before .before .before .before .before .before .before .read-all .ensures .0)
+returns-2 c = records-refused _ _ _ _ (c .before .before .before .before .before .before .before .pre) (first-wrong _ (c .before .before .before .before .before .before .before .pre) _ (sym (c .before .found2 .given .1) ∙ c .before .before .before .read-first .ensures))
 
 pub after-head-spec : {M : Type 1} → statement M
 after-head-spec =
     tie.close
     (tie.spec
-    shared-slice-read-count
-    count-requires
-    slice-aggregate-read-all
-    slice-aggregate-read-all-2
-    slice-aggregate-read-all-3
-    slice-aggregate-read-all-4
-    slice-aggregate-read-all-5
-    read-all-requires
-    enum-told
-    slice-aggregate-after-records
-    slice-aggregate-after-records-2
-    slice-aggregate-after-records-3
-    slice-aggregate-after-records-4
-    slice-aggregate-after-records-5
-    after-records-requires
-    enum-known-checked
+    read-first-requires
+    enum-known-found
+    after-first-requires
+    enum-known-found-2
     same-length
     same-length-2
     returns

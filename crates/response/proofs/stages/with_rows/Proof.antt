@@ -45,11 +45,14 @@ slice-aggregate-after-rows-3 c = search needs
 after-rows-requires : tie.Need-after-rows-requires
 after-rows-requires c κs =
     let p = c .before .before .before .before .before .before .before .before .before .before .before .before .before .before .before .before .before .before .before .before .before .before .before .before .pre .0 in
-    let e = c .before .before .before .before .before .before .before .before .before .before .before .before .read-all .ensures in
-    ( p
-    , ( rows-read _ (p .head) _ (p .counted) _ (c .before .before .before .before .before .before .before .before .before .before .before .before .before .before .before .before .before .before .before .before .before .before .before .before .pre .1) _ _ _ refl refl refl _ _ _ (sym (e .0) ∙ c .before .before .before .before .before .before .before .enum-told .given .1)
-        (e .1 .0) (e .1 .1 .0) (e .1 .1 .1)
-      , room-is _ _ _ (confirmed (c .before .before .before .before .before .before .room .ensures) (c .before .before .before .before .before .if1 .left))))
+    let e = c .before .before .before .before .before .before .before .before .before .before .before .before .read-all .ensures in (
+      p,
+      (
+        rows-read _ (p .head) _ (p .counted) _ (c .before .before .before .before .before .before .before .before .before .before .before .before .before .before .before .before .before .before .before .before .before .before .before .before .pre .1) _ _ _ refl refl refl _ _ _ (sym (e .0) ∙ c .before .before .before .before .before .before .before .enum-told .given .1)
+            (e .1 .0) (e .1 .1 .0) (e .1 .1 .1),
+        room-is _ _ _ (confirmed (c .before .before .before .before .before .before .room .ensures) (c .before .before .before .before .before .if1 .left)),
+      ),
+    )
 
 enum-known-checked : tie.Need-enum-known-checked
 enum-known-checked c = search needs

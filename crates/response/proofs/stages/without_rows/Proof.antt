@@ -27,9 +27,10 @@ slice-aggregate-answer-all-3 : tie.Need-slice-aggregate-answer-all-3
 slice-aggregate-answer-all-3 c = search needs
 
 answer-all-requires : tie.Need-answer-all-requires
-answer-all-requires c κs =
-    ( decoded-fits _ _ _ _ _ _ _ _ [] [] _ (c .before .before .before .before .before .before .before .before .before .before .before .before .before .before .before .pre .0) (no-rows _ _ _ _ (c .before .before .before .before .before .before .before .before .before .before .before .before .before .before .before .pre .1)) _ _ (nothing-held _ _) (nothing-held _ _)
-    , room-is _ _ _ (confirmed (c .before .before .before .before .before .before .room .ensures) (c .before .before .before .before .before .if1 .left)))
+answer-all-requires c κs = (
+  decoded-fits _ _ _ _ _ _ _ _ [] [] _ (c .before .before .before .before .before .before .before .before .before .before .before .before .before .before .before .pre .0) (no-rows _ _ _ _ (c .before .before .before .before .before .before .before .before .before .before .before .before .before .before .before .pre .1)) _ _ (nothing-held _ _) (nothing-held _ _),
+  room-is _ _ _ (confirmed (c .before .before .before .before .before .before .room .ensures) (c .before .before .before .before .before .if1 .left)),
+)
 
 same-length : tie.Need-same-length
 same-length c = search needs

@@ -1,15 +1,15 @@
--- `tables::records::read_all` meets its contract: each turn reads one record, by the laws of `RecordLaws`, and fills one word of each slice.
+-- `tables::records::read_rest` meets its contract: each turn reads one record, by the laws of `RecordLaws`, and fills one word of each slice.
 -- Assumes nothing.
 use Prim.Native.Nat.{_-_}
 use native.Mathlib.Omega.{arith}
 use mathlib.Core.Path.{_≡_, ap}
 use Rattle.model.proofs.Tests.{refuted, confirmed}
 use Rattle.model.specs.Tables.{Task}
-use Rattle.model.proofs.Filling.{Filling, filling-none, filling-more, filling-at}
+use Rattle.model.proofs.Filling.{Filling, filling-one, filling-more, filling-at}
 use Rattle.tables.specs.Layout.{priorityIn, periodIn, costIn, deadlineIn, jitterIn}
-use Rattle.tables.proofs.RecordLaws.{Reading, reading-none, as-task, numbers-wrong, priority-wrong, reading-more, reading-all}
-use Rattle.tables.proofs.records.read_all.Statement.{statement}
-use Rattle.tables.proofs.records.read_all.Tie as tie
+use Rattle.tables.proofs.RecordLaws.{Reading, reading-one, as-task, numbers-wrong, priority-wrong, reading-more, reading-all}
+use Rattle.tables.proofs.records.read_rest.Statement.{statement}
+use Rattle.tables.proofs.records.read_rest.Tie as tie
 
 abbrev Inv-loop : tie.InvT-loop
 Inv-loop table n priorities₀ periods₀ costs₀ deadlines₀ jitters₀ before₀ at₀ i₀ priorities periods costs deadlines jitters before at i =
@@ -23,15 +23,21 @@ Inv-loop table n priorities₀ periods₀ costs₀ deadlines₀ jitters₀ befor
 abbrev μ-loop : tie.MeasureT-loop
 μ-loop table n priorities₀ periods₀ costs₀ deadlines₀ jitters₀ before₀ at₀ i₀ priorities periods costs deadlines jitters before at i = n - i
 
+slice-read-wide : tie.Need-slice-read-wide Inv-loop μ-loop
+slice-read-wide c = omega (arith, c .before .before .before .before .before .before .before .pre)
+
+wide-requires : tie.Need-wide-requires Inv-loop μ-loop
+wide-requires c κs = omega arith
+
 loop-holds : tie.Need-loop-holds Inv-loop μ-loop
 loop-holds c =
-    let p = c .before .before .before .before .before .before .pre in (
-      reading-none _ _ (p .counted) (p .within),
-      filling-none _ _ _ (p .prioritiesLong),
-      filling-none _ _ _ (p .periodsLong),
-      filling-none _ _ _ (p .costsLong),
-      filling-none _ _ _ (p .deadlinesLong),
-      filling-none _ _ _ (p .jittersLong),
+    let p = c .before .before .before .before .before .before .before .before .pre in (
+      reading-one _ _ p _ (c .wide .ensures .0),
+      filling-one _ _ _ (p .some) (p .prioritiesLong) (p .firstPriority),
+      filling-one _ _ _ (p .some) (p .periodsLong) (p .firstPeriod),
+      filling-one _ _ _ (p .some) (p .costsLong) (p .firstCost),
+      filling-one _ _ _ (p .some) (p .deadlinesLong) (p .firstDeadline),
+      filling-one _ _ _ (p .some) (p .jittersLong) (p .firstJitter),
     )
 
 read-requires : tie.Need-read-requires Inv-loop μ-loop
@@ -61,8 +67,8 @@ returns c =
     let w = numbers-wrong _ _ _ _ _ (v .0) (c .before .before .before .loop-test .taken) _ (c .before .before .read .ensures) (refuted (c .before .numbers-fit .ensures) (c .if1 .taken)) in
     (w .0, (filling-at _ _ _ _ _ (v .1) _ (w .1), (filling-at _ _ _ _ _ (v .2) _ (w .1), (filling-at _ _ _ _ _ (v .3) _ (w .1), (filling-at _ _ _ _ _ (v .4) _ (w .1), filling-at _ _ _ _ _ (v .5) _ (w .1))))))
 
-wide-requires : tie.Need-wide-requires Inv-loop μ-loop
-wide-requires c κs = omega arith
+wide-requires-2 : tie.Need-wide-requires-2 Inv-loop μ-loop
+wide-requires-2 c κs = omega arith
 
 sub-within : tie.Need-sub-within Inv-loop μ-loop
 sub-within c = omega (arith, c .before .before .before .before .before .loop .inv .0 .low)
@@ -89,7 +95,7 @@ returns-2 : tie.Need-returns-2 Inv-loop μ-loop
 returns-2 c =
     let v = c .before .before .before .before .before .before .before .loop .inv in
     let w = priority-wrong _ _ _ _ _ (v .0) (c .before .before .before .before .before .before .loop-test .taken) _ (c .before .before .before .before .before .read .ensures) (confirmed (c .before .before .before .before .numbers-fit .ensures) (c .before .before .before .if1 .left))
-    _ (c .before .before .wide .ensures .0) (c .before .before .wide .ensures .1) (refuted (c .before .within .ensures) (c .if2 .taken)) in
+    _ (c .before .before .wide2 .ensures .0) (refuted (c .before .within .ensures) (c .if2 .taken)) in
     (w .0, (filling-at _ _ _ _ _ (v .1) _ (w .1), (filling-at _ _ _ _ _ (v .2) _ (w .1), (filling-at _ _ _ _ _ (v .3) _ (w .1), (filling-at _ _ _ _ _ (v .4) _ (w .1), filling-at _ _ _ _ _ (v .5) _ (w .1))))))
 
 slice-write-priorities : tie.Need-slice-write-priorities Inv-loop μ-loop
@@ -120,7 +126,7 @@ slice-write-jitters : tie.Need-slice-write-jitters Inv-loop μ-loop
 slice-write-jitters c = omega (arith, c .before .before .before .before .before .before .before .loop .inv .5 .long, c .before .before .before .before .before .before .before .loop .inv .5 .room, c .before .before .before .before .before .before .loop-test .taken)
 
 add-at : tie.Need-add-at Inv-loop μ-loop
-add-at c = omega (arith, c .before .before .before .before .before .before .before .loop .inv .0 .here, c .before .before .before .before .before .before .before .loop .inv .0 .fits, c .before .before .before .before .before .before .loop-test .taken, c .before .before .before .before .before .before .before .before .before .before .before .before .before .before .good)
+add-at c = omega (arith, c .before .before .before .before .before .before .before .loop .inv .0 .here, c .before .before .before .before .before .before .before .loop .inv .0 .fits, c .before .before .before .before .before .before .loop-test .taken, c .before .before .before .before .before .before .before .before .before .before .before .before .before .before .before .before .good)
 
 add-i : tie.Need-add-i Inv-loop μ-loop
 add-i c = omega arith
@@ -134,7 +140,7 @@ loop-again c =
     let t = as-task _ _ (v .0) _ (c .before .before .before .before .before .read .ensures) in
     let h = c .before .before .before .before .before .before .loop-test .taken in (
       reading-more _ _ _ _ _ (v .0) h _ (c .before .before .before .before .before .read .ensures) (confirmed (c .before .before .before .before .numbers-fit .ensures) (c .before .before .before .if1 .left))
-          _ (c .before .before .wide .ensures .0) (c .before .before .wide .ensures .1) (confirmed (c .before .within .ensures) (c .if2 .left)),
+          _ (c .before .before .wide2 .ensures .0) (confirmed (c .before .within .ensures) (c .if2 .left)),
       filling-more _ _ _ _ _ _ (v .1) h (ap (λ (t : Task). t .priority) t),
       filling-more _ _ _ _ _ _ (v .2) h (ap (λ (t : Task). t .period) t),
       filling-more _ _ _ _ _ _ (v .3) h (ap (λ (t : Task). t .cost) t),
@@ -163,12 +169,14 @@ returns-3 c =
     let w = reading-all _ _ (v .0) (c .loop-test .left) in
     (w .0, (filling-at _ _ _ _ _ (v .1) _ (w .1), (filling-at _ _ _ _ _ (v .2) _ (w .1), (filling-at _ _ _ _ _ (v .3) _ (w .1), (filling-at _ _ _ _ _ (v .4) _ (w .1), filling-at _ _ _ _ _ (v .5) _ (w .1))))))
 
-pub read-all-spec : {M : Type 1} → statement M
-read-all-spec =
+pub read-rest-spec : {M : Type 1} → statement M
+read-rest-spec =
     tie.close
     (tie.spec
     Inv-loop
     μ-loop
+    slice-read-wide
+    wide-requires
     loop-holds
     read-requires
     numbers-fit-requires
@@ -178,7 +186,7 @@ read-all-spec =
     same-length-4
     same-length-5
     returns
-    wide-requires
+    wide-requires-2
     sub-within
     within-requires
     same-length-6
