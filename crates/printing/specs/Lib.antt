@@ -1,0 +1,2 @@
+pub mod Appended
+pub mod Text

@@ -1,0 +1,68 @@
+-- What the program prints for a table, its verdict and the words of both slices (document 01, "Worked tables").
+-- Assumes nothing.
+use Prim.Native.Nat.{ℕ, zero, suc, _+_, _^_}
+use Prim.Native.Char.{code}
+use Prim.Native.String.{String, [] as none, _∷_ as _then_}
+use mathlib.Core.Bool.{Bool}
+use mathlib.Core.List.{List, [], _∷_, _++_}
+use lib.Dec.{ltb, eqb}
+use lib.ListN.{length, getD}
+use Rattle.io.specs.Digits.{digits}
+use Rattle.model.specs.Choice.{pick}
+use Rattle.model.specs.Search.{firstFrom}
+use Rattle.tables.specs.declared.Refusal.{Refusal}
+use Rattle.tables.specs.Layout.{taskCount, recordStart, recordSize, deadlineIn}
+use Rattle.tables.specs.Refusals.{numberOf, placeOf}
+use Rattle.response.specs.declared.Verdict.{Verdict}
+use Rattle.response.specs.declared.Verdict.the-variants.{Refused, Schedulable, Late}
+
+-- a word's bytes
+abbrev pub bytesOf : String → List ℕ
+bytesOf none = []
+bytesOf (c then rest) = code c ∷ bytesOf rest
+
+-- the fewest decimal digits, at least 1 and at most 20, that hold a number
+abbrev pub isHeld : ℕ → ℕ → Bool
+isHeld number count = ltb number (10 ^ count)
+
+unfoldable pub decimalOf : ℕ → List ℕ
+decimalOf number = digits 10 (firstFrom (isHeld number) 1 20) number
+
+-- a word and a number, and a line of them
+abbrev pub withNumber : List ℕ → ℕ → List ℕ
+withNumber word number = word ++ decimalOf number
+
+abbrev pub lineWithNumber : List ℕ → ℕ → List ℕ
+lineWithNumber word number = withNumber word number ++ bytesOf "\n"
+
+-- "A refusal prints one line, `refused 4 at 0`."
+abbrev pub refusedLine : Refusal → List ℕ
+refusedLine refusal = withNumber (bytesOf "refused ") (numberOf refusal) ++ lineWithNumber (bytesOf " at ") (placeOf refusal)
+
+-- "A late task prints `1 late deadline 25 rounds 2`"
+abbrev pub responseText : ℕ → List ℕ
+responseText answer = pick (eqb answer 0) (bytesOf " late") (withNumber (bytesOf " response ") answer)
+
+abbrev pub taskLine : ℕ → ℕ → ℕ → ℕ → List ℕ
+taskLine place answer deadline rounds =
+    ((decimalOf place ++ responseText answer) ++ withNumber (bytesOf " deadline ") deadline)
+    ++ lineWithNumber (bytesOf " rounds ") rounds
+
+-- the deadline of the record at a place, and 0 where the bytes end before the record does
+abbrev pub deadlineShown : List ℕ → ℕ → ℕ
+deadlineShown bytes place = pick (ltb (length bytes) (recordStart place + recordSize)) 0 (deadlineIn bytes place)
+
+unfoldable pub taskLines : List ℕ → List ℕ → List ℕ → ℕ → List ℕ
+taskLines bytes answers rounds zero = []
+taskLines bytes answers rounds (suc i) =
+    taskLines bytes answers rounds i ++ taskLine i (getD answers i 0) (deadlineShown bytes i) (getD rounds i 0)
+
+abbrev pub tasksText : List ℕ → List ℕ → List ℕ → List ℕ
+tasksText bytes answers rounds =
+    lineWithNumber (bytesOf "tasks ") (taskCount bytes) ++ taskLines bytes answers rounds (taskCount bytes)
+
+-- "and the last line is then `late 1`"
+abbrev pub textOf : List ℕ → Verdict → List ℕ → List ℕ → List ℕ
+textOf bytes (Refused refusal) answers rounds = refusedLine refusal
+textOf bytes Schedulable answers rounds = tasksText bytes answers rounds ++ bytesOf "schedulable\n"
+textOf bytes (Late first) answers rounds = tasksText bytes answers rounds ++ lineWithNumber (bytesOf "late ") (first .0)

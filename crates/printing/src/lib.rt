@@ -1,0 +1,127 @@
+// Document 01's text for a table and its verdict. It is built in a lent buffer, so that a program writes it in one call.
+ghost use mathlib.Core.Path.{_≡_};
+ghost use Prim.Native.Nat.{_<_};
+ghost use lib.ListN.{getD};
+ghost use Rattle.tables.specs.Layout.{taskCount};
+ghost use Rattle.printing.specs.Appended.{Appended};
+ghost use Rattle.printing.specs.Text.{textOf, lineWithNumber, refusedLine, tasksText, taskLine, responseText, deadlineShown};
+use response::Verdict;
+use tables::Refusal;
+
+mod pieces;
+
+pub use pieces::append;
+use pieces::append_number;
+use pieces::append_with_number;
+
+// Bytes enough for the text of any table: 32 task lines of at most 52 bytes, the first and the last line, and what `worked` adds.
+pub const ROOM: usize = 2048;
+
+// Appends the text at `at`, and answers where the next byte goes.
+pub fn text(
+    out: &mut [u8],
+    at: usize,
+    table: &[u8],
+    verdict: Verdict,
+    answers: &[u32],
+    rounds: &[u32],
+) -> usize
+    ensures { λ r. ⌜ Appended (now (out .entry)) at (textOf (now (table .entry)) verdict (now (answers .entry)) (now (rounds .entry))) r (now (out .exit)) ⌝ }
+{
+    match verdict {
+        Verdict::Refused(refusal) => refused(out, at, refusal),
+        Verdict::Schedulable => {
+            let next = tasks(out, at, table, answers, rounds);
+            append(out, next, b"schedulable\n")
+        }
+        Verdict::Late(first) => {
+            let next = tasks(out, at, table, answers, rounds);
+            line_with_number(out, next, b"late ", first.0 as u64)
+        }
+    }
+}
+
+// The number of tasks that the table states; 0 where it ends before that byte.
+pub fn task_count(table: &[u8]) -> usize
+    ensures { λ r. ⌜ (r ≡ taskCount (now (table .entry))) × (r < 256) ⌝ }
+{
+    if table.len() <= 3 {
+        return 0;
+    }
+    tables::fields::count(table[3])
+}
+
+// Appends a line of a word and a number.
+pub fn line_with_number(out: &mut [u8], at: usize, word: &[u8], number: u64) -> usize
+    ensures { λ r. ⌜ Appended (now (out .entry)) at (lineWithNumber (now (word .entry)) number) r (now (out .exit)) ⌝ }
+{
+    let next = append_with_number(out, at, word, number);
+    append(out, next, b"\n")
+}
+
+// A refusal's one line.
+fn refused(out: &mut [u8], at: usize, refusal: Refusal) -> usize
+    ensures { λ r. ⌜ Appended (now (out .entry)) at (refusedLine refusal) r (now (out .exit)) ⌝ }
+{
+    let next = append_with_number(out, at, b"refused ", tables::number(refusal) as u64);
+    line_with_number(out, next, b" at ", tables::place(refusal) as u64)
+}
+
+// The number of tasks, and a line for each.
+fn tasks(out: &mut [u8], at: usize, table: &[u8], answers: &[u32], rounds: &[u32]) -> usize
+    ensures { λ r. ⌜ Appended (now (out .entry)) at (tasksText (now (table .entry)) (now (answers .entry)) (now (rounds .entry))) r (now (out .exit)) ⌝ }
+{
+    let n = task_count(table);
+    let mut next = line_with_number(out, at, b"tasks ", n as u64);
+    for i in 0..n {
+        next = task(
+            out,
+            next,
+            i,
+            word(answers, i),
+            deadline(table, i),
+            word(rounds, i),
+        );
+    }
+    next
+}
+
+// One task's line.
+fn task(out: &mut [u8], at: usize, place: usize, answer: u32, deadline: u32, rounds: u32) -> usize
+    ensures { λ r. ⌜ Appended (now (out .entry)) at (taskLine place answer deadline rounds) r (now (out .exit)) ⌝ }
+{
+    let placed = append_number(out, at, place as u64);
+    let answered = response(out, placed, answer);
+    let next = append_with_number(out, answered, b" deadline ", deadline as u64);
+    line_with_number(out, next, b" rounds ", rounds as u64)
+}
+
+// An answer of 0 is late.
+fn response(out: &mut [u8], at: usize, answer: u32) -> usize
+    ensures { λ r. ⌜ Appended (now (out .entry)) at (responseText answer) r (now (out .exit)) ⌝ }
+{
+    if answer == 0 {
+        append(out, at, b" late")
+    } else {
+        append_with_number(out, at, b" response ", answer as u64)
+    }
+}
+
+// The deadline of the record at a place; 0 where the table ends before the record does, as no accepted table does.
+fn deadline(table: &[u8], place: usize) -> u32
+    requires { ⌜ place < 256 ⌝ }
+    ensures { λ r. ⌜ r ≡ deadlineShown (now (table .entry)) place ⌝ }
+{
+    let at = 5 + 17 * place;
+    if table.len() < at + 17 {
+        return 0;
+    }
+    tables::records::read(table, at).deadline.0
+}
+
+// The word at a place; 0 past the end, which no accepted table reaches.
+fn word(words: &[u32], place: usize) -> u32
+    ensures { λ r. ⌜ r ≡ getD (now (words .entry)) place 0 ⌝ }
+{
+    if place < words.len() { words[place] } else { 0 }
+}

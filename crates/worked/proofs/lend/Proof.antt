@@ -1,0 +1,44 @@
+-- `worked::lend` is safe and ends: the parts lent lie within the words.
+-- Assumes nothing.
+use native.Mathlib.Omega.{arith}
+use Rattle.printing.proofs.AppendLaws.{part-length}
+use borrow.Author.Needs.{needs}
+use Rattle.worked.proofs.lend.Statement.{statement}
+use Rattle.worked.proofs.lend.Tie as tie
+
+filler-requires : tie.Need-filler-requires
+filler-requires c κs = search needs
+
+filler-requires-2 : tie.Need-filler-requires-2
+filler-requires-2 c κs = search needs
+
+array-borrow-prefix-answers : tie.Need-array-borrow-prefix-answers
+array-borrow-prefix-answers c = search needs
+
+slice-aggregate-judge : tie.Need-slice-aggregate-judge
+slice-aggregate-judge c = part-length _ (c .before .before .filler .result) (omega (arith, c .before .before .filler .ensures))
+
+array-borrow-prefix-rounds : tie.Need-array-borrow-prefix-rounds
+array-borrow-prefix-rounds c = search needs
+
+slice-aggregate-judge-2 : tie.Need-slice-aggregate-judge-2
+slice-aggregate-judge-2 c = part-length _ (c .before .before .filler2 .result) (omega (arith, c .before .before .filler2 .ensures))
+
+judge-requires : tie.Need-judge-requires
+judge-requires c κs = search needs
+
+returns : tie.Need-returns
+returns c = search needs
+
+pub lend-spec : {M : Type 1} → statement M
+lend-spec =
+    tie.close
+    (tie.spec
+    filler-requires
+    filler-requires-2
+    array-borrow-prefix-answers
+    slice-aggregate-judge
+    array-borrow-prefix-rounds
+    slice-aggregate-judge-2
+    judge-requires
+    returns)

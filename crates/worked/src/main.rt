@@ -1,0 +1,136 @@
+// Judges every table of the file `tables` and prints each one's text, to be held to an independent reference.
+//
+// An entry of the file is two bytes with the table's length, one byte with the length of the slice to lend for answers, one byte
+// with that of the slice to lend for rounds, and the table's bytes.
+ghost use Prim.Native.Nat.{_<_};
+ghost use mathlib.Core.Path.{_≡_};
+ghost use lib.ListN.{length};
+ghost use Rattle.printing.specs.Appended.{Appended};
+ghost use Rattle.worked.specs.Stay.{stayLine};
+use libc::STDOUT_FILENO;
+use printing::append;
+use response::Verdict;
+use tables::fields::count;
+
+// What each lent word holds before a call, so that a word that stays can be seen to stay.
+const FILLER: u32 = 2779096485;
+
+fn main() {
+    let file = os::open_read(b"tables");
+    if file < 0 {
+        os::fail(b"tables");
+        return;
+    }
+    judge_all(file);
+    libc::close(file);
+}
+
+// A proved loop has to end, and nothing says that a file does. So the loop counts the tables, up to a number that no file reaches.
+fn judge_all(file: i32) {
+    let mut number: u64 = 0;
+    while number < u64::MAX && judge_next(file, number) {
+        number += 1;
+    }
+}
+
+// Reads the lengths of the next entry and judges it; false where the file has ended.
+fn judge_next(file: i32, number: u64) -> bool {
+    let mut head = [0u8; 4];
+    let taken = io::read_full(file, &mut head);
+    if taken < 4 {
+        return false;
+    }
+    let length = count(head[0]) * 256 + count(head[1]);
+    judge_entry(file, number, length, count(head[2]), count(head[3]));
+    true
+}
+
+// Makes room for a table of the length that its entry names.
+fn judge_entry(file: i32, number: u64, length: usize, answers_length: usize, rounds_length: usize)
+    requires { ⌜ length < 65536 ⌝ }
+    requires { ⌜ «answers_length» < 256 ⌝ }
+    requires { ⌜ «rounds_length» < 256 ⌝ }
+{
+    let mut space = io::large_buffer();
+    read_table(
+        file,
+        number,
+        &mut space[..length],
+        answers_length,
+        rounds_length,
+    );
+}
+
+// Reads the table, or what there is of it.
+fn read_table(file: i32, number: u64, table: &mut [u8], answers_length: usize, rounds_length: usize)
+    requires { ⌜ «answers_length» < 256 ⌝ }
+    requires { ⌜ «rounds_length» < 256 ⌝ }
+{
+    let taken = io::read_full(file, table);
+    lend(number, &table[..taken], answers_length, rounds_length);
+}
+
+// Lends slices of the lengths that the entry names.
+fn lend(number: u64, table: &[u8], answers_length: usize, rounds_length: usize)
+    requires { ⌜ «answers_length» < 256 ⌝ }
+    requires { ⌜ «rounds_length» < 256 ⌝ }
+{
+    let mut answers = filler();
+    let mut rounds = filler();
+    judge(
+        number,
+        table,
+        &mut answers[..answers_length],
+        &mut rounds[..rounds_length],
+    );
+}
+
+// Words enough for any length that a byte can name.
+fn filler() -> [u32; 256]
+    ensures { λ r. ⌜ 256 ≡ length r ⌝ }
+{
+    [FILLER; 256]
+}
+
+// Judges one table, and writes its text in one call.
+fn judge(number: u64, table: &[u8], answers: &mut [u32], rounds: &mut [u32]) {
+    let verdict = response::analyse(table, answers, rounds);
+    let mut out = [0u8; printing::ROOM];
+    let named = printing::line_with_number(&mut out, 0, b"table ", number);
+    let told = printing::text(&mut out, named, table, verdict, answers, rounds);
+    let first = first_to_stay(table, verdict);
+    let end = append_stay(&mut out, told, stay(answers, first) && stay(rounds, first));
+    io::write_all(STDOUT_FILENO, &out[..end]);
+}
+
+// The first word that is not to be written: a refusal changes no word.
+fn first_to_stay(table: &[u8], verdict: Verdict) -> usize {
+    match verdict {
+        Verdict::Refused(_) => 0,
+        Verdict::Schedulable => printing::task_count(table),
+        Verdict::Late(_) => printing::task_count(table),
+    }
+}
+
+// Do the words from `first` on still hold the filler?
+fn stay(words: &[u32], first: usize) -> bool {
+    let mut i = first;
+    while i < words.len() {
+        if words[i] != FILLER {
+            return false;
+        }
+        i += 1;
+    }
+    true
+}
+
+// Appends the last line.
+fn append_stay(out: &mut [u8], at: usize, stayed: bool) -> usize
+    ensures { λ r. ⌜ Appended (now (out .entry)) at (stayLine stayed) r (now (out .exit)) ⌝ }
+{
+    if stayed {
+        append(out, at, b"stayed\n")
+    } else {
+        append(out, at, b"changed\n")
+    }
+}
