@@ -6,8 +6,8 @@ use model::Place;
 use tables::Check;
 use tables::Refusal;
 
-pub mod answering;
-pub mod stages;
+mod answering;
+mod stages;
 
 // What is said of a table.
 pub enum Verdict {

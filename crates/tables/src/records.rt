@@ -40,7 +40,7 @@ pub fn read(table: &[u8], at: usize) -> TaskRecord
 }
 
 // Are T, C, D and J in range?
-pub fn numbers_fit(task: TaskRecord) -> bool
+fn numbers_fit(task: TaskRecord) -> bool
     ensures { λ r. ⌜ r ≡ numbersFit (taskFrom task) ⌝ }
 {
     if !within(1, 1000000, task.period.0) {

@@ -36,7 +36,7 @@ pub fn read(table: &[u8], at: usize) -> RowRecord
 }
 
 // A number that rises where rows rise by place, then semaphore.
-pub fn key(row: RowRecord) -> u32
+fn key(row: RowRecord) -> u32
     requires { ⌜ (row .place .0 < 256) × (row .semaphore < 256) ⌝ }
     ensures { λ r. ⌜ r ≡ rowKey (rowOf row) ⌝ }
 {
@@ -44,7 +44,7 @@ pub fn key(row: RowRecord) -> u32
 }
 
 // Is the row right? Its place is tested before a cost is looked up by it.
-pub fn fits(row: RowRecord, n: usize, costs: &[u32], before: u32) -> bool
+fn fits(row: RowRecord, n: usize, costs: &[u32], before: u32) -> bool
     requires { ⌜ (row .place .0 < 256) × (row .semaphore < 256) ⌝ }
     requires { ⌜ n ≤ length (now costs) ⌝ }
     ensures { λ r. ⌜ r ≡ rowRight n (now (costs .entry)) before (rowOf row) ⌝ }
