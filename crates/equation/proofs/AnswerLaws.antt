@@ -60,9 +60,6 @@ answer-at late deadline w p h = rw (lt-ltb 0 w p, le-leb (w + late) deadline h)
 pub answer-late : (late deadline w : ℕ) → 1 ≤ w → deadline < w + late → answerFor late deadline w ≡ 0
 answer-late late deadline w p h = rw (lt-ltb 0 w p, lt-leb (w + late) deadline h)
 
-pub answer-none : (late deadline : ℕ) → answerFor late deadline 0 ≡ 0
-answer-none late deadline = refl
-
 answer-answered : (base : ℕ) (loads : List Load) (late deadline w : ℕ) →
     IsSmallest base loads w → w + late ≤ deadline → answer base loads late deadline ≡ w + late
 answer-answered base loads late deadline w s h =

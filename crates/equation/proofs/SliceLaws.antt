@@ -41,10 +41,7 @@ module _ (periods costs spreads : List ℕ) (count w base : ℕ) where
         high = omega arith;
       }
 
-  -- the load at k fits, and so does its share
-  pub load-fits : (k sum : ℕ) → Summing periods costs spreads count w base k sum → k < count → LoadFits (loadAt periods costs spreads k)
-  load-fits k sum s h = s .fit .each k h
-
+  -- the share of the load at k fits
   pub share-fits : (k sum begun : ℕ) → Summing periods costs spreads count w base k sum → k < count →
       begun ≡ ceilDiv (w + getD spreads k 0) (getD periods k 0) → getD costs k 0 * begun ≤ 1001000000000000
   share-fits k sum begun s h e = rw e (share-high w (loadAt periods costs spreads k) (s .fit .each k h) (s .small))

@@ -68,10 +68,6 @@ both-true false b p = absurd (clash false p refl)
 pub both-pass : {a b : Bool} → a ≡ true → b ≡ true → both a b ≡ true
 both-pass p q = rw p q
 
-pub not-true-false : (b : Bool) → (b ≡ true → ⊥) → b ≡ false
-not-true-false true f = absurd (f refl)
-not-true-false false f = refl
-
 pub either-true : (a b : Bool) → either a b ≡ true → (a ≡ false → b ≡ true)
 either-true true b p q = absurd (clash true refl q)
 either-true false b p q = p
