@@ -34,16 +34,26 @@ fn held(owner: u8, top: u8, longest: u32, own: u8) -> u32
     longest
 }
 
-// The ceiling of each semaphore, 0 where no row names it.
-pub fn ceilings(priorities: &[u8], places: &[u8], semaphores: &[u8], count: usize) -> [u8; 17]
+// The ceiling of each semaphore, 0 where no row names it; and, since each row's task is looked up for that, the task's priority.
+pub fn ceilings(
+    priorities: &[u8],
+    places: &[u8],
+    semaphores: &[u8],
+    count: usize,
+    owners: &mut [u8],
+) -> [u8; 17]
     requires { ⌜ RowsHeld (now priorities) (now places) (now semaphores) count ⌝ }
+    requires { ⌜ count ≤ length (now owners) ⌝ }
     ensures { λ r. ⌜ ((s : ℕ) → s < 17 → getD r s 0 ≡ ceilingIn (now (priorities .entry)) (now (places .entry)) (now (semaphores .entry)) count s) ⌝ }
+    ensures { λ r. ⌜ now (owners .exit) ≡ filled (ownerAt (now (priorities .entry)) (now (places .entry))) count (now (owners .entry)) ⌝ }
 {
     let mut found = [0u8; 17];
     for k in 0..count {
         let semaphore = semaphores[k] as usize;
         let place = places[k] as usize;
-        found[semaphore] = larger_priority(found[semaphore], priorities[place]);
+        let priority = priorities[place];
+        owners[k] = priority;
+        found[semaphore] = larger_priority(found[semaphore], priority);
     }
     found
 }
@@ -62,11 +72,9 @@ pub fn spans(
     ensures { λ _. ⌜ now (owners .exit) ≡ filled (ownerAt (now (priorities .entry)) (now (places .entry))) count (now (owners .entry)) ⌝ }
     ensures { λ _. ⌜ now (tops .exit) ≡ filled (topAt (now (priorities .entry)) (now (places .entry)) (now (semaphores .entry)) count) count (now (tops .entry)) ⌝ }
 {
-    let found = ceilings(priorities, places, semaphores, count);
+    let found = ceilings(priorities, places, semaphores, count, owners);
     for k in 0..count {
-        let place = places[k] as usize;
         let semaphore = semaphores[k] as usize;
-        owners[k] = priorities[place];
         tops[k] = found[semaphore];
     }
 }

@@ -1,25 +1,30 @@
--- `blocking::ceilings` meets its contract: after k turns it has the ceilings of the first k rows.
+-- `blocking::ceilings` meets its contract: after k turns it has the ceilings of the first k rows, and the priorities of their tasks.
 -- Assumes nothing.
 use Prim.Native.Nat.{_-_}
 use native.Mathlib.Omega.{arith}
+use mathlib.Core.Path.{refl}
+use Rattle.model.proofs.Filling.{Filling, filling-none, filling-more, filling-at}
+use Rattle.blocking.specs.Slices.{ownerAt}
 use Rattle.blocking.proofs.CeilingLaws.{Raised, raised-none, raised-more, raised-all}
 use Rattle.blocking.proofs.ceilings.Statement.{statement}
 use Rattle.blocking.proofs.ceilings.Tie as tie
 
 abbrev Inv-loop : tie.InvT-loop
-Inv-loop priorities places semaphores count found₀ k₀ found k = Raised priorities places semaphores count k found
+Inv-loop priorities places semaphores count owners₀ found₀ k₀ owners found k =
+    Raised priorities places semaphores count k found
+    × Filling (ownerAt priorities places) count k owners₀ owners
 
 abbrev μ-loop : tie.MeasureT-loop
-μ-loop priorities places semaphores count found₀ k₀ found k = count - k
+μ-loop priorities places semaphores count owners₀ found₀ k₀ owners found k = count - k
 
 loop-holds : tie.Need-loop-holds Inv-loop μ-loop
-loop-holds c = raised-none _ _ _ _
+loop-holds c = (raised-none _ _ _ _, filling-none _ _ _ (c .before .before .before .before .pre .1))
 
 shared-slice-read-semaphore : tie.Need-shared-slice-read-semaphore Inv-loop μ-loop
 shared-slice-read-semaphore c = omega arith
 
 cast-semaphore : tie.Need-cast-semaphore Inv-loop μ-loop
-cast-semaphore c = omega (arith, c .before .before .before .before .before .before .pre .semaphoresLow (c .before .before .loop .k) (c .before .loop-test .taken))
+cast-semaphore c = omega (arith, c .before .before .before .before .before .before .before .pre .0 .semaphoresLow (c .before .before .loop .k) (c .before .loop-test .taken))
 
 shared-slice-read-place : tie.Need-shared-slice-read-place Inv-loop μ-loop
 shared-slice-read-place c = omega arith
@@ -27,17 +32,20 @@ shared-slice-read-place c = omega arith
 cast-place : tie.Need-cast-place Inv-loop μ-loop
 cast-place c = omega (arith, c .shared-slice-known5 .given (c .before .before .before .loop .k))
 
-array-read-larger-priority : tie.Need-array-read-larger-priority Inv-loop μ-loop
-array-read-larger-priority c = omega (arith, c .before .before .before .before .before .before .before .pre .semaphoresLow (c .before .before .before .loop .k) (c .before .before .loop-test .taken), c .before .before .before .loop .inv .long)
+shared-slice-read-priority : tie.Need-shared-slice-read-priority Inv-loop μ-loop
+shared-slice-read-priority c = c .before .before .before .before .before .before .before .before .before .pre .0 .placesLow (c .before .before .before .before .loop .k) (c .before .before .before .loop-test .taken)
 
-shared-slice-read-larger-priority : tie.Need-shared-slice-read-larger-priority Inv-loop μ-loop
-shared-slice-read-larger-priority c = c .before .before .before .before .before .before .before .before .pre .placesLow (c .before .before .before .before .loop .k) (c .before .before .before .loop-test .taken)
+slice-write-owners : tie.Need-slice-write-owners Inv-loop μ-loop
+slice-write-owners c = omega arith
+
+array-read-larger-priority : tie.Need-array-read-larger-priority Inv-loop μ-loop
+array-read-larger-priority c = omega (arith, c .before .before .before .before .before .before .before .before .before .pre .0 .semaphoresLow (c .before .before .before .before .loop .k) (c .before .before .before .loop-test .taken), c .before .before .before .before .loop .inv .0 .long)
 
 larger-priority-requires : tie.Need-larger-priority-requires Inv-loop μ-loop
 larger-priority-requires c κs = omega arith
 
 array-write-found : tie.Need-array-write-found Inv-loop μ-loop
-array-write-found c = omega (arith, c .before .before .before .before .before .before .before .before .before .pre .semaphoresLow (c .before .before .before .before .before .loop .k) (c .before .before .before .before .loop-test .taken), c .before .before .before .before .before .loop .inv .long)
+array-write-found c = omega (arith, c .before .before .before .before .before .before .before .before .before .before .pre .0 .semaphoresLow (c .before .before .before .before .before .loop .k) (c .before .before .before .before .loop-test .taken), c .before .before .before .before .before .loop .inv .0 .long)
 
 add-k : tie.Need-add-k Inv-loop μ-loop
 add-k c = omega arith
@@ -46,10 +54,19 @@ loop-less : tie.Need-loop-less Inv-loop μ-loop
 loop-less c = omega arith
 
 loop-again : tie.Need-loop-again Inv-loop μ-loop
-loop-again c = raised-more _ _ _ _ _ _ _ (c .before .before .before .before .before .loop .inv) (c .before .before .before .before .loop-test .taken) (c .before .before .before .before .before .before .before .before .before .pre .semaphoresLow (c .before .before .before .before .before .loop .k) (c .before .before .before .before .loop-test .taken)) (c .larger-priority .ensures)
+loop-again c = (
+  raised-more _ _ _ _ _ _ _ (c .before .before .before .before .before .loop .inv .0) (c .before .before .before .before .loop-test .taken) (c .before .before .before .before .before .before .before .before .before .before .pre .0 .semaphoresLow (c .before .before .before .before .before .loop .k) (c .before .before .before .before .loop-test .taken)) (c .larger-priority .ensures),
+  filling-more _ _ _ _ _ _ (c .before .before .before .before .before .loop .inv .1) (c .before .before .before .before .loop-test .taken) refl,
+)
+
+same-length : tie.Need-same-length Inv-loop μ-loop
+same-length c = c .before .loop .inv .1 .long
 
 returns : tie.Need-returns Inv-loop μ-loop
-returns c = raised-all _ _ _ _ _ _ (c .before .loop .inv) (c .loop-test .left)
+returns c = (
+  raised-all _ _ _ _ _ _ (c .before .loop .inv .0) (c .loop-test .left),
+  filling-at _ _ _ _ _ (c .before .loop .inv .1) _ (omega (arith, c .before .loop .inv .0 .within, c .loop-test .left)),
+)
 
 pub ceilings-spec : {M : Type 1} → statement M
 ceilings-spec =
@@ -62,11 +79,13 @@ ceilings-spec =
     cast-semaphore
     shared-slice-read-place
     cast-place
+    shared-slice-read-priority
+    slice-write-owners
     array-read-larger-priority
-    shared-slice-read-larger-priority
     larger-priority-requires
     array-write-found
     add-k
     loop-less
     loop-again
+    same-length
     returns)
