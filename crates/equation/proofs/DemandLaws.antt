@@ -11,7 +11,7 @@ use Rattle.model.specs.Tables.{Load}
 use Rattle.model.proofs.Lists.{sum-mono, sum-append}
 use Rattle.equation.specs.Rounding.{ceilDiv}
 use Rattle.equation.specs.Demand.{demand, share}
-use Rattle.equation.specs.Laws.{costOf}
+use Rattle.equation.specs.Laws.{costOf, noLoad}
 use Rattle.equation.proofs.RoundingLaws as rounding
 
 pub monotone : (base : ℕ) (loads : List Load) (v w : ℕ) → v ≤ w → demand base loads v ≤ demand base loads w
@@ -38,7 +38,7 @@ demand-none base w = omega arith
 
 -- in a stretch of at least one tick each load asks for its cost at least once
 pub costs-once : (loads : List Load) (w : ℕ) → 1 ≤ w →
-    ((k : ℕ) → k < length loads → 1 ≤ getD loads k (record { period = 1; cost = 0; spread = 0 }) .period) →
+    ((k : ℕ) → k < length loads → 1 ≤ getD loads k noLoad .period) →
     sumOf costOf loads ≤ sumOf (share w) loads
 unfolding sumOf
 costs-once [] w h p = omega arith

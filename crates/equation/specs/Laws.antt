@@ -69,9 +69,14 @@ pub record SequenceReaches : Type 0 where
 abbrev pub costOf : Load → ℕ
 costOf l = l .cost
 
+-- a load that asks for nothing: what stands past the end of a list of loads
+abbrev pub noLoad : Load
+noLoad = record { period = 1; cost = 0; spread = 0 }
+
 abbrev pub ThreeStarts : Type 0
 ThreeStarts =
-    (base : ℕ) (loads : List Load) (w : ℕ) → 1 ≤ base → ((k : ℕ) → k < length loads → 1 ≤ getD loads k (record { period = 1; cost = 0; spread = 0 }) .period) →
+    (base : ℕ) (loads : List Load) (w : ℕ) → 1 ≤ base →
+    ((k : ℕ) → k < length loads → 1 ≤ getD loads k noLoad .period) →
     IsSmallest base loads w →
     (term base loads 0 (w - 0) ≡ w)
     × (term base loads base (w - base) ≡ w)

@@ -39,7 +39,7 @@ use Rattle.response.specs.Verdicts.{isSchedulable}
 use Rattle.response.specs.Analysis.{baseOf, answerOf, roundsOf}
 use Rattle.response.specs.Outcome.{Outcome, lateIf, lateAt, resultOf, verdictFor, verdictOf, answersAfter, roundsAfter}
 use Rattle.response.specs.Statements as says
-use Rattle.response.specs.Statements.{AnswerRight, RoundsRight, ResultRight, Written, wordAt}
+use Rattle.response.specs.Statements.{AnswerRight, RoundsRight, ResultRight, Written, wordOf}
 use Rattle.response.proofs.PlaceLaws.{schedulable-only}
 use Rattle.response.proofs.TableLaws.{task-is, tasks-count, tasks-fit}
 
@@ -215,10 +215,10 @@ module _ (bytes answers rounds : List ℕ) (v : Verdict) (answersLeft roundsLeft
   unfolding roundsAfter
   rounds-filled = o .roundsAre ∙ rw clean
 
-  pub answer-word : (i : ℕ) → i < taskCount bytes → wordAt answersLeft i ≡ answerOf (tableOf bytes) i
+  pub answer-word : (i : ℕ) → i < taskCount bytes → wordOf answersLeft i ≡ answerOf (tableOf bytes) i
   answer-word i h = ap (λ l. getD l i 0) answers-filled ∙ getD-filled (answerOf (tableOf bytes)) (taskCount bytes) i answers 0 h
 
-  rounds-word : (i : ℕ) → i < taskCount bytes → wordAt roundsLeft i ≡ roundsOf (tableOf bytes) i
+  rounds-word : (i : ℕ) → i < taskCount bytes → wordOf roundsLeft i ≡ roundsOf (tableOf bytes) i
   rounds-word i h = ap (λ l. getD l i 0) rounds-filled ∙ getD-filled (roundsOf (tableOf bytes)) (taskCount bytes) i rounds 0 h
 
   cost-low : (i : ℕ) → i < taskCount bytes → 1 ≤ taskOf (tasksOf bytes) i .cost
@@ -240,7 +240,7 @@ module _ (bytes answers rounds : List ℕ) (v : Verdict) (answersLeft roundsLeft
         roundsStay = λ i h.
             ap (λ l. getD l i 0) rounds-filled ∙ getD-filled-past (roundsOf (tableOf bytes)) (taskCount bytes) i rounds 0 h;
         result =
-            result-transfer (answerOf (tableOf bytes)) (wordAt answersLeft) (taskCount bytes) v (λ i h. sym (answer-word i h))
+            result-transfer (answerOf (tableOf bytes)) (wordOf answersLeft) (taskCount bytes) v (λ i h. sym (answer-word i h))
             (subst (ResultRight (answerOf (tableOf bytes)) (taskCount bytes)) (sym result-is)
             (result-right (answerOf (tableOf bytes)) (taskCount bytes)));
       }
@@ -260,7 +260,7 @@ module _ (bytes answers rounds : List ℕ) (v : Verdict) (answersLeft roundsLeft
     plain-answer i h =
         rw (no-blocking i, add-zero (taskOf (tasksOf bytes) i .cost), calm i (omega (arith, tasks-count bytes)))
 
-    run-answers : (i : ℕ) → i < taskCount bytes → Answers (tasksOf bytes) i (wordAt answersLeft i)
+    run-answers : (i : ℕ) → i < taskCount bytes → Answers (tasksOf bytes) i (wordOf answersLeft i)
     run-answers i h =
         rw (answer-word i h ∙ plain-answer i h)
         (runs.demand3 (tasksOf bytes) (tasks-fit bytes (right .records)) calm i (omega (arith, tasks-count bytes)))

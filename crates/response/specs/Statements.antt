@@ -63,18 +63,18 @@ ResultRight answers n (Late place) =
     (place .0 < n) × (answers (place .0) ≡ 0) × ((i : ℕ) → i < place .0 → 1 ≤ answers i)
 
 -- what stands at a place of a slice
-abbrev pub wordAt : List ℕ → ℕ → ℕ
-wordAt words i = getD words i 0
+abbrev pub wordOf : List ℕ → ℕ → ℕ
+wordOf words i = getD words i 0
 
 -- "Otherwise words 0 to n−1 of each answer slice are written, answers in the first and rounds in the second, later words stay"
 pub record Written (bytes answers rounds : List ℕ) (verdict : Verdict) (answersLeft roundsLeft : List ℕ) : Type 0 where
-  pub answersRight : (i : ℕ) → i < taskCount bytes → AnswerRight (tableOf bytes) i (wordAt answersLeft i)
-  pub roundsRight : (i : ℕ) → i < taskCount bytes → RoundsRight (tableOf bytes) i (wordAt roundsLeft i)
+  pub answersRight : (i : ℕ) → i < taskCount bytes → AnswerRight (tableOf bytes) i (wordOf answersLeft i)
+  pub roundsRight : (i : ℕ) → i < taskCount bytes → RoundsRight (tableOf bytes) i (wordOf roundsLeft i)
   pub answersLong : length answersLeft ≡ length answers
   pub roundsLong : length roundsLeft ≡ length rounds
-  pub answersStay : (i : ℕ) → taskCount bytes ≤ i → wordAt answersLeft i ≡ wordAt answers i
-  pub roundsStay : (i : ℕ) → taskCount bytes ≤ i → wordAt roundsLeft i ≡ wordAt rounds i
-  pub result : ResultRight (wordAt answersLeft) (taskCount bytes) verdict
+  pub answersStay : (i : ℕ) → taskCount bytes ≤ i → wordOf answersLeft i ≡ wordOf answers i
+  pub roundsStay : (i : ℕ) → taskCount bytes ≤ i → wordOf roundsLeft i ≡ wordOf rounds i
+  pub result : ResultRight (wordOf answersLeft) (taskCount bytes) verdict
 
 -- Demand 2, for every table that is not refused.
 abbrev pub Demand2 : Type 0
@@ -96,4 +96,4 @@ Demand3 =
     (bytes answers rounds : List ℕ) (verdict : Verdict) (answersLeft roundsLeft : List ℕ) →
     Outcome bytes answers rounds verdict answersLeft roundsLeft → TableRight bytes → RoomFor bytes (length answers) (length rounds) →
     NoJitter (tasksOf bytes) → rowCount bytes ≡ 0 →
-    (i : ℕ) → i < taskCount bytes → Answers (tasksOf bytes) i (wordAt answersLeft i)
+    (i : ℕ) → i < taskCount bytes → Answers (tasksOf bytes) i (wordOf answersLeft i)
