@@ -6,6 +6,8 @@ ghost use Rattle.tables.specs.Layout.{taskCount};
 ghost use Rattle.printing.specs.Appended.{Appended};
 ghost use Rattle.printing.specs.Text.{textOf, lineWithNumber, refusedLine, tasksText, taskLine, responseText, deadlineShown};
 use response::Verdict;
+use tables::HEAD_SIZE;
+use tables::RECORD_SIZE;
 use tables::Refusal;
 
 mod pieces;
@@ -112,8 +114,8 @@ fn deadline(table: &[u8], place: usize) -> u32
     requires { ⌜ place < 256 ⌝ }
     ensures { λ r. ⌜ r ≡ deadlineShown (now (table .entry)) place ⌝ }
 {
-    let at = 5 + 17 * place;
-    if table.len() < at + 17 {
+    let at = HEAD_SIZE + RECORD_SIZE * place;
+    if table.len() < at + RECORD_SIZE {
         return 0;
     }
     tables::records::read(table, at).deadline.0

@@ -2,32 +2,37 @@
 ghost use mathlib.Core.Path.{_≡_};
 ghost use Rattle.tables.specs.Checks.{headCheck};
 use crate::Check;
+use crate::HEAD_SIZE;
+use crate::MOST_ROWS;
+use crate::MOST_TASKS;
+use crate::RECORD_SIZE;
+use crate::ROW_SIZE;
 use crate::Refusal;
+use crate::fields::count;
 use crate::fields::half;
-use crate::fields::wide;
 use crate::fields::within;
 
 pub fn check(table: &[u8]) -> Check
     ensures { λ r. ⌜ r ≡ headCheck (now (table .entry)) ⌝ }
 {
-    if table.len() < 5 {
+    if table.len() < HEAD_SIZE {
         return Check::Refused(Refusal::TooShort);
     }
     if table[0] != 1 {
         return Check::Refused(Refusal::UnknownVersion);
     }
-    let n = wide(table[3]);
-    let m = wide(table[4]);
-    if !within(1, 32, n) {
+    let n = count(table[3]);
+    let m = count(table[4]);
+    if !within(1, MOST_TASKS, n as u32) {
         return Check::Refused(Refusal::CountOutOfRange);
     }
-    if !within(0, 64, m) {
+    if !within(0, MOST_ROWS, m as u32) {
         return Check::Refused(Refusal::CountOutOfRange);
     }
     if half(table, 1) as usize != table.len() {
         return Check::Refused(Refusal::LengthsDiffer);
     }
-    if (5 + 17 * n + 6 * m) as usize != table.len() {
+    if HEAD_SIZE + RECORD_SIZE * n + ROW_SIZE * m != table.len() {
         return Check::Refused(Refusal::LengthsDiffer);
     }
     Check::Clean

@@ -8,6 +8,22 @@ pub mod head;
 pub mod records;
 pub mod rows;
 
+// Sizes in bytes: what stands before the first record, a task record, a section row.
+pub const HEAD_SIZE: usize = 5;
+
+pub const RECORD_SIZE: usize = 17;
+
+pub const ROW_SIZE: usize = 6;
+
+// Limits: the numbers of tasks and rows, a period or a cost, a semaphore.
+pub const MOST_TASKS: u32 = 32;
+
+pub const MOST_ROWS: u32 = 64;
+
+pub const MOST_TICKS: u32 = 1000000;
+
+pub const MOST_SEMAPHORE: u32 = 16;
+
 // Why a table is refused, in the order of document 01's table.
 pub enum Refusal {
     TooShort,

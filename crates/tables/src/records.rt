@@ -8,6 +8,9 @@ ghost use Rattle.tables.specs.Rules.{numbersFit};
 ghost use Rattle.tables.specs.Checks.{recordsCheck, recordsRead};
 ghost use Rattle.tables.specs.Reading.{taskFrom, firstRecord, RecordsFit};
 use crate::Check;
+use crate::HEAD_SIZE;
+use crate::MOST_TICKS;
+use crate::RECORD_SIZE;
 use crate::Refusal;
 use crate::fields::wide;
 use crate::fields::within;
@@ -43,16 +46,16 @@ pub fn read(table: &[u8], at: usize) -> TaskRecord
 fn numbers_fit(task: TaskRecord) -> bool
     ensures { λ r. ⌜ r ≡ numbersFit (taskFrom task) ⌝ }
 {
-    if !within(1, 1000000, task.period.0) {
+    if !within(1, MOST_TICKS, task.period.0) {
         return false;
     }
-    if !within(1, 1000000, task.cost.0) {
+    if !within(1, MOST_TICKS, task.cost.0) {
         return false;
     }
     if !within(1, task.period.0, task.deadline.0) {
         return false;
     }
-    within(0, 1000000, task.jitter.0)
+    within(0, MOST_TICKS, task.jitter.0)
 }
 
 // The first record, or why it is refused.
@@ -66,7 +69,7 @@ pub fn read_first(table: &[u8]) -> First
     requires { ⌜ 22 ≤ length (now table) ⌝ }
     ensures { λ r. ⌜ r ≡ firstRecord (now (table .entry)) ⌝ }
 {
-    let task = read(table, 5);
+    let task = read(table, HEAD_SIZE);
     if !numbers_fit(task) {
         return First::Refused(Refusal::NumberOutOfRange(Place(0)));
     }
@@ -96,7 +99,7 @@ pub fn read_rest(
     ensures { λ r. ⌜ now (jitters .exit) ≡ filled (jitterIn (now (table .entry))) (recordsRead (now (table .entry))) (now (jitters .entry)) ⌝ }
 {
     let mut before = wide(priorities[0]);
-    let mut at = 22;
+    let mut at = HEAD_SIZE + RECORD_SIZE;
     for i in 1..n {
         let task = read(table, at);
         if !numbers_fit(task) {
@@ -112,7 +115,7 @@ pub fn read_rest(
         deadlines[i] = task.deadline.0;
         jitters[i] = task.jitter.0;
         before = priority;
-        at += 17;
+        at += RECORD_SIZE;
     }
     Check::Clean
 }

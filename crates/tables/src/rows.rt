@@ -7,6 +7,10 @@ ghost use Rattle.tables.specs.Layout.{rowFrom, placeIn, semaphoreIn, lon
 ghost use Rattle.tables.specs.Checks.{rowsCheck, rowsRead};
 ghost use Rattle.tables.specs.Reading.{rowOf, rowKey, rowRight, RowsFit};
 use crate::Check;
+use crate::HEAD_SIZE;
+use crate::MOST_SEMAPHORE;
+use crate::RECORD_SIZE;
+use crate::ROW_SIZE;
 use crate::Refusal;
 use crate::fields::count;
 use crate::fields::wide;
@@ -53,7 +57,7 @@ fn fits(row: RowRecord, n: usize, costs: &[u32], before: u32) -> bool
     if n <= place {
         return false;
     }
-    if !within(1, 16, wide(row.semaphore)) {
+    if !within(1, MOST_SEMAPHORE, wide(row.semaphore)) {
         return false;
     }
     if !within(1, costs[place], row.longest.0) {
@@ -80,7 +84,7 @@ pub fn read_all(
 {
     // below every key: no row stands before the first
     let mut before: u32 = 0;
-    let mut at = 5 + 17 * n;
+    let mut at = HEAD_SIZE + RECORD_SIZE * n;
     for k in 0..m {
         let row = read(table, at);
         if !fits(row, n, costs, before) {
@@ -90,7 +94,7 @@ pub fn read_all(
         semaphores[k] = row.semaphore;
         longest[k] = row.longest.0;
         before = key(row);
-        at += 6;
+        at += ROW_SIZE;
     }
     Check::Clean
 }

@@ -16,29 +16,35 @@ shared-slice-read-if2 c = search needs
 returns-2 : tie.Need-returns-2
 returns-2 c = head-version _ (c .before .before .if1 .left) (c .if2 .taken)
 
-shared-slice-read-wide : tie.Need-shared-slice-read-wide
-shared-slice-read-wide c = search needs
+shared-slice-read-count : tie.Need-shared-slice-read-count
+shared-slice-read-count c = search needs
 
-wide-requires : tie.Need-wide-requires
-wide-requires c κs = search needs
+count-requires : tie.Need-count-requires
+count-requires c κs = search needs
 
-shared-slice-read-wide-2 : tie.Need-shared-slice-read-wide-2
-shared-slice-read-wide-2 c = search needs
+shared-slice-read-count-2 : tie.Need-shared-slice-read-count-2
+shared-slice-read-count-2 c = search needs
 
-wide-requires-2 : tie.Need-wide-requires-2
-wide-requires-2 c κs = search needs
+count-requires-2 : tie.Need-count-requires-2
+count-requires-2 c κs = search needs
+
+cast-within : tie.Need-cast-within
+cast-within c = search needs
 
 within-requires : tie.Need-within-requires
 within-requires c κs = search needs
 
 returns-3 : tie.Need-returns-3
-returns-3 c = head-tasks _ (c .before .before .before .before .before .before .before .before .if1 .left) (c .before .before .before .before .before .before .if2 .left) _ (c .before .before .before .before .wide .ensures .0) (refuted (c .before .within .ensures) (c .if3 .taken))
+returns-3 c = head-tasks _ (c .before .before .before .before .before .before .before .before .if1 .left) (c .before .before .before .before .before .before .if2 .left) _ (c .before .before .before .before .count .ensures .0) (refuted (c .before .within .ensures) (c .if3 .taken))
+
+cast-within-2 : tie.Need-cast-within-2
+cast-within-2 c = search needs
 
 within-requires-2 : tie.Need-within-requires-2
 within-requires-2 c κs = search needs
 
 returns-4 : tie.Need-returns-4
-returns-4 c = head-rows _ (c .before .before .before .before .before .before .before .before .before .before .if1 .left) (c .before .before .before .before .before .before .before .before .if2 .left) _ (c .before .before .before .before .wide2 .ensures .0) (refuted (c .before .within2 .ensures) (c .if4 .taken))
+returns-4 c = head-rows _ (c .before .before .before .before .before .before .before .before .before .before .if1 .left) (c .before .before .before .before .before .before .before .before .if2 .left) _ (c .before .before .before .before .count2 .ensures .0) (refuted (c .before .within2 .ensures) (c .if4 .taken))
 
 half-requires : tie.Need-half-requires
 half-requires c κs = search needs
@@ -48,7 +54,7 @@ cast-if5 c = search needs
 
 returns-5 : tie.Need-returns-5
 returns-5 c =
-    head-stated _ (c .before .before .before .before .before .before .before .before .before .before .before .before .if1 .left) (c .before .before .before .before .before .before .before .before .before .before .if2 .left) _ _ (c .before .before .before .before .before .before .before .before .wide .ensures .0) (c .before .before .before .before .before .before .wide2 .ensures .0)
+    head-stated _ (c .before .before .before .before .before .before .before .before .before .before .before .before .if1 .left) (c .before .before .before .before .before .before .before .before .before .before .if2 .left) _ _ (c .before .before .before .before .before .before .before .before .count .ensures .0) (c .before .before .before .before .before .before .count2 .ensures .0)
     (confirmed (c .before .before .before .before .before .within .ensures) (c .before .before .before .before .if3 .left)) (confirmed (c .before .before .before .within2 .ensures) (c .before .before .if4 .left))
     (λ e. c .if5 .taken (c .before .half .ensures ∙ e))
 
@@ -64,18 +70,15 @@ mul-if6-2 c = search needs
 add-if6-2 : tie.Need-add-if6-2
 add-if6-2 c = search needs
 
-cast-if6 : tie.Need-cast-if6
-cast-if6 c = search needs
-
 returns-6 : tie.Need-returns-6
 returns-6 c =
-    head-summed _ (c .before .before .before .before .before .before .before .before .before .before .before .before .before .if1 .left) (c .before .before .before .before .before .before .before .before .before .before .before .if2 .left) _ _ (c .before .before .before .before .before .before .before .before .before .wide .ensures .0) (c .before .before .before .before .before .before .before .wide2 .ensures .0)
+    head-summed _ (c .before .before .before .before .before .before .before .before .before .before .before .before .before .if1 .left) (c .before .before .before .before .before .before .before .before .before .before .before .if2 .left) _ _ (c .before .before .before .before .before .before .before .before .before .count .ensures .0) (c .before .before .before .before .before .before .before .count2 .ensures .0)
     (confirmed (c .before .before .before .before .before .before .within .ensures) (c .before .before .before .before .before .if3 .left)) (confirmed (c .before .before .before .before .within2 .ensures) (c .before .before .before .if4 .left))
     (c .if6 .taken)
 
 returns-7 : tie.Need-returns-7
 returns-7 c =
-    head-clean _ (c .before .before .before .before .before .before .before .before .before .before .before .before .before .if1 .left) (c .before .before .before .before .before .before .before .before .before .before .before .if2 .left) _ _ (c .before .before .before .before .before .before .before .before .before .wide .ensures .0) (c .before .before .before .before .before .before .before .wide2 .ensures .0)
+    head-clean _ (c .before .before .before .before .before .before .before .before .before .before .before .before .before .if1 .left) (c .before .before .before .before .before .before .before .before .before .before .before .if2 .left) _ _ (c .before .before .before .before .before .before .before .before .before .count .ensures .0) (c .before .before .before .before .before .before .before .count2 .ensures .0)
     (confirmed (c .before .before .before .before .before .before .within .ensures) (c .before .before .before .before .before .if3 .left)) (confirmed (c .before .before .before .before .within2 .ensures) (c .before .before .before .if4 .left))
     (sym (c .before .before .half .ensures) ∙ c .before .if5 .left) (c .if6 .left)
 
@@ -86,12 +89,14 @@ check-spec =
     returns
     shared-slice-read-if2
     returns-2
-    shared-slice-read-wide
-    wide-requires
-    shared-slice-read-wide-2
-    wide-requires-2
+    shared-slice-read-count
+    count-requires
+    shared-slice-read-count-2
+    count-requires-2
+    cast-within
     within-requires
     returns-3
+    cast-within-2
     within-requires-2
     returns-4
     half-requires
@@ -101,6 +106,5 @@ check-spec =
     add-if6
     mul-if6-2
     add-if6-2
-    cast-if6
     returns-6
     returns-7)

@@ -29,6 +29,9 @@ slice-read-wide c = omega (arith, c .before .before .before .before .before .bef
 wide-requires : tie.Need-wide-requires Inv-loop μ-loop
 wide-requires c κs = omega arith
 
+add-at : tie.Need-add-at Inv-loop μ-loop
+add-at c = omega arith
+
 loop-holds : tie.Need-loop-holds Inv-loop μ-loop
 loop-holds c =
     let p = c .before .before .before .before .before .before .before .before .pre in (
@@ -125,8 +128,8 @@ mul-jitters c = omega arith
 slice-write-jitters : tie.Need-slice-write-jitters Inv-loop μ-loop
 slice-write-jitters c = omega (arith, c .before .before .before .before .before .before .before .loop .inv .5 .long, c .before .before .before .before .before .before .before .loop .inv .5 .room, c .before .before .before .before .before .before .loop-test .taken)
 
-add-at : tie.Need-add-at Inv-loop μ-loop
-add-at c = omega (arith, c .before .before .before .before .before .before .before .loop .inv .0 .here, c .before .before .before .before .before .before .before .loop .inv .0 .fits, c .before .before .before .before .before .before .loop-test .taken, c .before .before .before .before .before .before .before .before .before .before .before .before .before .before .before .before .good)
+add-at-2 : tie.Need-add-at-2 Inv-loop μ-loop
+add-at-2 c = omega (arith, c .before .before .before .before .before .before .before .loop .inv .0 .here, c .before .before .before .before .before .before .before .loop .inv .0 .fits, c .before .before .before .before .before .before .loop-test .taken, c .before .before .before .before .before .before .before .before .before .before .before .before .before .before .before .before .good)
 
 add-i : tie.Need-add-i Inv-loop μ-loop
 add-i c = omega arith
@@ -177,6 +180,7 @@ read-rest-spec =
     μ-loop
     slice-read-wide
     wide-requires
+    add-at
     loop-holds
     read-requires
     numbers-fit-requires
@@ -204,7 +208,7 @@ read-rest-spec =
     slice-write-deadlines
     mul-jitters
     slice-write-jitters
-    add-at
+    add-at-2
     add-i
     loop-less
     loop-again
