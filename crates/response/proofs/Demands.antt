@@ -24,7 +24,7 @@ use Rattle.tables.specs.Layout.{taskCount, rowCount, tasksOf, rowsOf, rowAt, ta
 use Rattle.tables.specs.Refusals.{at, isClean}
 use Rattle.tables.specs.Checks.{tableCheck}
 use Rattle.tables.specs.Meaning.{TableRight, RoomFor, Deserved}
-use Rattle.tables.proofs.CheckLaws.{table-deserved, table-clean}
+use Rattle.tables.proofs.CheckLaws.{table-deserved, table-gives, table-right, table-clean}
 use Rattle.equation.specs.Answer.{answer}
 use Rattle.equation.specs.Sequence.{term, stops, rounds}
 use Rattle.equation.specs.Laws.{IsSmallest, NotAbove}
@@ -85,6 +85,21 @@ module _ (bytes answers rounds : List ℕ) where
   unfolding roundsAfter
   rounds-kept r e = rw e
 
+  -- a deserved refusal is the verdict
+  verdict-given : (r : Refusal) → tableCheck bytes (length answers) (length rounds) ≡ check.Refused r →
+      verdictOf bytes (length answers) (length rounds) ≡ verdict.Refused r
+  unfolding verdictOf
+  verdict-given r e = rw e
+
+  -- a check that refuses gives a verdict that refuses
+  check-clean : ((r : Refusal) → ¬ (verdictOf bytes (length answers) (length rounds) ≡ verdict.Refused r)) →
+      tableCheck bytes (length answers) (length rounds) ≡ check.Clean
+  check-clean never = go (tableCheck bytes (length answers) (length rounds)) refl
+    where
+      go : (c : Check) → tableCheck bytes (length answers) (length rounds) ≡ c → tableCheck bytes (length answers) (length rounds) ≡ check.Clean
+      go check.Clean e = e
+      go (check.Refused r) e = absurd (never r (verdict-given r e))
+
 pub demand1 : says.Demand1
 demand1 =
     record {
@@ -100,6 +115,11 @@ demand1 =
             o .answersAre ∙ answers-kept bytes answers rounds r e,
             o .roundsAre ∙ rounds-kept bytes answers rounds r e,
           );
+      given = λ bytes answers rounds answersLeft roundsLeft v r d o.
+          o .verdictIs ∙ verdict-given bytes answers rounds r (table-gives bytes (length answers) (length rounds) r d);
+      notRefused = λ bytes answers rounds answersLeft roundsLeft v o never.
+          table-right bytes (length answers) (length rounds)
+          (check-clean bytes answers rounds (λ r e. never r (o .verdictIs ∙ e)));
       accepted = λ bytes answers rounds answersLeft roundsLeft r right room o.
           clash (isClean (tableCheck bytes (length answers) (length rounds)))
           (ap isClean (table-clean bytes (length answers) (length rounds) right room))

@@ -28,6 +28,14 @@ pub record Demand1 : Type 0 where
   pub refused : (bytes answers rounds answersLeft roundsLeft : List ℕ) (refusal : Refusal) →
       Outcome bytes answers rounds (Refused refusal) answersLeft roundsLeft →
       Deserved bytes (length answers) (length rounds) refusal × (answersLeft ≡ answers) × (roundsLeft ≡ rounds)
+  -- and it is given whenever it applies: "A bad table gets one of eight refusals"
+  pub given : (bytes answers rounds answersLeft roundsLeft : List ℕ) (verdict : Verdict) (refusal : Refusal) →
+      Deserved bytes (length answers) (length rounds) refusal →
+      Outcome bytes answers rounds verdict answersLeft roundsLeft → verdict ≡ Refused refusal
+  -- a table that is not refused breaks no rule, and has room
+  pub notRefused : (bytes answers rounds answersLeft roundsLeft : List ℕ) (verdict : Verdict) →
+      Outcome bytes answers rounds verdict answersLeft roundsLeft → ((refusal : Refusal) → ¬ (verdict ≡ Refused refusal)) →
+      TableRight bytes × RoomFor bytes (length answers) (length rounds)
   -- "A table that breaks no rule is never refused."
   pub accepted : (bytes answers rounds answersLeft roundsLeft : List ℕ) (refusal : Refusal) →
       TableRight bytes → RoomFor bytes (length answers) (length rounds) →

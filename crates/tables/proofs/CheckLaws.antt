@@ -250,3 +250,115 @@ module _ (bytes : List ℕ) where
                     ]
               ]
         ]
+
+    -- a rule that does not hold fails its test
+    fails : {Rule : Type 0} (test : Bool) → (test ≡ true → Rule) → ¬ Rule → test ≡ false
+    fails true means wrong = absurd (wrong (means refl))
+    fails false means wrong = refl
+
+    unless-fails : (test : Bool) (r : Refusal) → test ≡ false → unless test r ≡ Refused r
+    unfolding unless
+    unless-fails test r p = rw p
+
+    then-refused : (check later : Check) (r : Refusal) → check ≡ Clean → later ≡ Refused r → orElse check later ≡ Refused r
+    unfolding orElse
+    then-refused check later r p q = rw p q
+
+    stop-refused : (check later : Check) (r : Refusal) → check ≡ Refused r → orElse check later ≡ Refused r
+    unfolding orElse
+    stop-refused check later r p = rw p
+
+    long-passes : LongEnough bytes → unless (leb 5 (length bytes)) TooShort ≡ Clean
+    long-passes h = unless-pass (leb 5 (length bytes)) TooShort (le-leb 5 (length bytes) h)
+
+    version-passes : VersionKnown bytes → unless (eqb (versionOf bytes) 1) UnknownVersion ≡ Clean
+    version-passes h = unless-pass (eqb (versionOf bytes) 1) UnknownVersion (eq-eqb (versionOf bytes) 1 h)
+
+    counts-pass : CountsInRange bytes → unless (countsFit (taskCount bytes) (rowCount bytes)) CountOutOfRange ≡ Clean
+    counts-pass h = unless-pass (countsFit (taskCount bytes) (rowCount bytes)) CountOutOfRange (meaning.counts-hold bytes h)
+
+    from-head : (r : Refusal) → headCheck bytes ≡ Refused r → tableCheck bytes answers rounds ≡ Refused r
+    unfolding tableCheck firstIn
+    from-head r p = stop-refused (headCheck bytes) _ r p
+
+    from-records : (r : Refusal) → HeadRight bytes → recordsCheck bytes ≡ Refused r → tableCheck bytes answers rounds ≡ Refused r
+    unfolding tableCheck firstIn
+    from-records r head p = then-refused (headCheck bytes) _ r (head-clean head) (stop-refused (recordsCheck bytes) _ r p)
+
+    from-rows : (r : Refusal) → HeadRight bytes → RecordsRight bytes (taskCount bytes) → rowsCheck bytes ≡ Refused r →
+        tableCheck bytes answers rounds ≡ Refused r
+    unfolding tableCheck firstIn
+    from-rows r head records p =
+        then-refused (headCheck bytes) _ r (head-clean head)
+        (then-refused (recordsCheck bytes) _ r (records-clean records) (stop-refused (rowsCheck bytes) _ r p))
+
+    clean-before : (i : ℕ) → RecordsRight bytes i → firstOf isClean Clean (recordCheck bytes) i ≡ Clean
+    clean-before i before =
+        first-laws.none-found isClean Clean refl (recordCheck bytes) clean-only i
+        (λ j h. record-clean j (before .numbers j h) (before .priorities j h))
+
+    records-stop : (i : ℕ) (r : Refusal) → i < taskCount bytes → RecordsRight bytes i → recordCheck bytes i ≡ Refused r →
+        recordsCheck bytes ≡ Refused r
+    unfolding recordsCheck
+    records-stop i r inside before e =
+        first-laws.first-stop isClean Clean refl (recordCheck bytes) i (clean-before i before) (ap isClean e) (taskCount bytes) inside ∙ e
+
+    rows-stop : (k : ℕ) (r : Refusal) → k < rowCount bytes → RowsRight bytes k → rowCheck bytes k ≡ Refused r → rowsCheck bytes ≡ Refused r
+    unfolding rowsCheck
+    rows-stop k r inside before e =
+        first-laws.first-stop isClean Clean refl (rowCheck bytes) k
+        (first-laws.none-found isClean Clean refl (rowCheck bytes) clean-only k (λ j h. row-clean j (before j h)))
+        (ap isClean e) (rowCount bytes) inside
+        ∙ e
+
+    -- a refusal that is deserved is given
+    pub table-gives : (r : Refusal) → Deserved bytes answers rounds r → tableCheck bytes answers rounds ≡ Refused r
+    unfolding headCheck firstIn recordCheck rowCheck tableCheck roomCheck
+    table-gives TooShort d =
+        from-head TooShort
+        (stop-refused _ _ TooShort (unless-fails (leb 5 (length bytes)) TooShort (fails (leb 5 (length bytes)) (leb-true 5 (length bytes)) d)))
+    table-gives UnknownVersion d =
+        from-head UnknownVersion
+        (then-refused _ _ UnknownVersion (long-passes (d .0))
+        (stop-refused _ _ UnknownVersion
+        (unless-fails (eqb (versionOf bytes) 1) UnknownVersion
+        (fails (eqb (versionOf bytes) 1) (eqb-true (versionOf bytes) 1) (d .1)))))
+    table-gives CountOutOfRange d =
+        from-head CountOutOfRange
+        (then-refused _ _ CountOutOfRange (long-passes (d .0))
+        (then-refused _ _ CountOutOfRange (version-passes (d .1))
+        (stop-refused _ _ CountOutOfRange
+        (unless-fails (countsFit (taskCount bytes) (rowCount bytes)) CountOutOfRange
+        (fails (countsFit (taskCount bytes) (rowCount bytes)) (meaning.counts-mean bytes) (d .2))))))
+    table-gives LengthsDiffer d =
+        from-head LengthsDiffer
+        (then-refused _ _ LengthsDiffer (long-passes (d .0))
+        (then-refused _ _ LengthsDiffer (version-passes (d .1))
+        (then-refused _ _ LengthsDiffer (counts-pass (d .2))
+        (stop-refused _ _ LengthsDiffer
+        (unless-fails (lengthsAgree bytes) LengthsDiffer (fails (lengthsAgree bytes) (meaning.lengths-mean bytes) (d .3)))))))
+    table-gives (NumberOutOfRange i) d =
+        from-records (NumberOutOfRange i) (d .0)
+        (records-stop (i .0) (NumberOutOfRange i) (d .1) (d .2)
+        (stop-refused _ _ (NumberOutOfRange i)
+        (unless-fails (numbersFit (taskAt bytes (i .0))) (NumberOutOfRange i)
+        (fails (numbersFit (taskAt bytes (i .0))) (meaning.numbers-mean bytes (i .0)) (d .3)))))
+    table-gives (PriorityOutOfOrder i) d =
+        from-records (PriorityOutOfOrder i) (d .0)
+        (records-stop (i .0) (PriorityOutOfOrder i) (d .1) (d .2)
+        (then-refused _ _ (PriorityOutOfOrder i)
+        (unless-pass (numbersFit (taskAt bytes (i .0))) (NumberOutOfRange i) (meaning.numbers-hold bytes (i .0) (d .3)))
+        (unless-fails (priorityFits bytes (i .0)) (PriorityOutOfOrder i)
+        (fails (priorityFits bytes (i .0)) (meaning.priority-means bytes (i .0)) (d .4)))))
+    table-gives (SectionRow k) d =
+        from-rows (SectionRow k) (d .0) (d .1)
+        (rows-stop (k .0) (SectionRow k) (d .2) (d .3)
+        (unless-fails (rowFits bytes (k .0)) (SectionRow k)
+        (fails (rowFits bytes (k .0)) (meaning.row-means bytes (k .0)) (d .4))))
+    table-gives NoRoom d =
+        then-refused (headCheck bytes) _ NoRoom (head-clean (d .0 .head))
+        (then-refused (recordsCheck bytes) _ NoRoom (records-clean (d .0 .records))
+        (then-refused (rowsCheck bytes) _ NoRoom (rows-clean (d .0 .rows))
+        (stop-refused (roomCheck bytes answers rounds) Clean NoRoom
+        (unless-fails _ NoRoom
+        (fails (both (leb (taskCount bytes) answers) (leb (taskCount bytes) rounds)) (meaning.room-means bytes answers rounds) (d .1))))))
