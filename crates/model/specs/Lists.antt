@@ -31,6 +31,11 @@ module _ {A : Type 0} where
   largestOf f [] = 0
   largestOf f (x ∷ xs) = max (f x) (largestOf f xs)
 
+-- f 0 + f 1 + .. + f (n − 1)
+unfoldable pub total : (ℕ → ℕ) → ℕ → ℕ
+total f zero = 0
+total f (suc n) = total f n + f n
+
 -- the largest of f 0 to f (n − 1), and 0 where n is 0
 unfoldable pub largestTo : (ℕ → ℕ) → ℕ → ℕ
 largestTo f zero = 0

@@ -1,7 +1,8 @@
--- Demand 3: the answer of the equation is the longest response time in any run, and no other number is.
+-- Demand 3: the answer of the equation is the longest response time in any run, and no other number is; and the run in which all is
+-- released together is one that takes that long.
 -- Assumes nothing.
 use Prim.Native.Nat.{ℕ, zero, suc, _+_, _-_, _≤_, _<_}
-use native.Mathlib.Nat.{le-trans, le-of-eq, add-zero}
+use native.Mathlib.Nat.{le-trans, le-refl, le-of-eq, add-zero}
 use native.Mathlib.Omega.{arith}
 use mathlib.Core.Path.{_≡_, refl, _∙_}
 use mathlib.Core.List.{List}
@@ -9,13 +10,14 @@ use lib.ListN.{length}
 use Rattle.model.specs.Tables.{Task, taskOf, loadsOf}
 use Rattle.equation.specs.Laws.{IsSmallest}
 use Rattle.equation.proofs.Laws.{answerMeans, smallestExists}
-use Rattle.runs.specs.Jobs.{TasksFit, NoJitter}
-use Rattle.runs.specs.Schedule.{Run}
+use Rattle.runs.specs.Jobs.{Job, jobOf, TasksFit, NoJitter}
+use Rattle.runs.specs.Schedule.{Schedule, Finished, LegalSchedule, Run}
 use Rattle.runs.specs.Scheduler.{scheduleOf}
 use Rattle.runs.specs.Statement.{responseOf, OwnJob, releaseOf, FinishedAt, Answers, Demand3, OnlyAnswer}
+use Rattle.runs.specs.Synchronous.{synchronous, FirstJob, SynchronousIsWorst}
 use Rattle.runs.proofs.Served.{served-grows}
 use Rattle.runs.proofs.Upper.{finished-in-time}
-use Rattle.runs.proofs.Together.{together, together-legal}
+use Rattle.runs.proofs.Together.{synchronous-legal, first-job}
 use Rattle.runs.proofs.Lower.{finished-demand}
 use Rattle.runs.proofs.Compute.{scheduleExists}
 
@@ -31,56 +33,84 @@ module _ (tasks : List Task) (fit : TasksFit tasks) (calm : NoJitter tasks) (i :
       let same : responseOf tasks i ≡ found .0 = found .3 ∙ add-zero (found .0) in
       (rw same (found .1), omega (arith, found .2))
 
-  -- the run of so many ticks in which all is released together, and its first job
-  worst : (ticks : ℕ) → 1 ≤ ticks → Run tasks
-  worst ticks low =
+  module _ (ticks : ℕ) (s : Schedule) (law : LegalSchedule tasks ticks (synchronous tasks ticks) s) (j : ℕ)
+      (own : FirstJob (synchronous tasks ticks) i j) (x : ℕ) (inRun : x ≤ ticks) (short : x ≤ taskOf tasks i .deadline) where
+    abbrev jobs : List Job
+    jobs = synchronous tasks ticks
+
+    -- where all is released together, the first job of i is finished from the answer on
+    in-time : 1 ≤ responseOf tasks i → responseOf tasks i ≤ x → Finished jobs s j x
+    in-time low enough =
+        le-trans
+        (finished-in-time tasks fit ticks jobs (synchronous-legal tasks fit ticks) calm i isTask s law j (responseOf tasks i)
+        (own .isJob) (own .isOwn) low (answered low .1) (le-of-eq (answered low .0 .solution)) (omega (arith, own .atOnce)))
+        (served-grows s j (jobOf jobs j .release + responseOf tasks i) x (omega (arith, own .atOnce)))
+
+    -- and at no tick before
+    not-before : Finished jobs s j x → (1 ≤ responseOf tasks i) × (responseOf tasks i ≤ x)
+    not-before done =
+        let found = finished-demand tasks fit ticks s law i j isTask own calm x inRun (le-trans short (fit .deadlineHigh i isTask)) done in
+        let least = smallestExists (taskOf tasks i .cost) (loadsOf tasks i) (found .0) (fit .costLow i isTask) (found .1) (found .3) in
+        let v : ℕ = least .0 in
+        let early : v ≤ x = le-trans (least .2) (found .2) in
+        let same : responseOf tasks i ≡ v + 0 =
+        answerMeans .answered (taskOf tasks i .cost) (loadsOf tasks i) 0 (taskOf tasks i .deadline) v (least .1) (omega arith) in
+        omega (arith, least .1 .positive)
+
+  -- the run of so many ticks in which all is released together
+  worst : ℕ → Run tasks
+  worst ticks =
       record {
         ticks = ticks;
-        jobs = together tasks ticks i;
-        schedule = scheduleOf tasks (together tasks ticks i);
-        legalJobs = together-legal tasks fit ticks i isTask low;
-        legalSchedule = scheduleExists tasks ticks (together tasks ticks i);
+        jobs = synchronous tasks ticks;
+        schedule = scheduleOf tasks (synchronous tasks ticks);
+        legalJobs = synchronous-legal tasks fit ticks;
+        legalSchedule = scheduleExists tasks ticks (synchronous tasks ticks);
       }
 
-  first : (ticks : ℕ) (low : 1 ≤ ticks) → OwnJob tasks i (worst ticks low)
+  -- up to the deadline it has a job, released at 0, that is finished at no tick before the answer, and at none if the answer is 0
+  late : (ticks : ℕ) → 1 ≤ ticks → ticks ≤ taskOf tasks i .deadline → (job : OwnJob tasks i (worst ticks)) × (releaseOf job ≡ 0) ×
+      ((x : ℕ) → x ≤ ticks → FinishedAt job x → (1 ≤ responseOf tasks i) × (responseOf tasks i ≤ x))
   unfolding worst
-  first ticks low = record { number = 0; isJob = omega arith; isOwn = refl }
-
-  -- if that job is finished at x, some solution is at most x
-  solved : (ticks : ℕ) (low : 1 ≤ ticks) → ticks ≤ taskOf tasks i .deadline → (x : ℕ) → FinishedAt (first ticks low) x → x ≤ ticks →
-      (v : ℕ) × Smallest v × (v ≤ x)
-  unfolding worst first
-  solved ticks low short x done h =
-      let found = finished-demand tasks fit calm i isTask ticks low (le-trans short (fit .deadlineHigh i isTask))
-      (scheduleOf tasks (together tasks ticks i)) (scheduleExists tasks ticks (together tasks ticks i)) x h done in
-      let least = smallestExists (taskOf tasks i .cost) (loadsOf tasks i) (found .0) (fit .costLow i isTask) (found .1) (found .3) in
-      (least .0, least .1, le-trans (least .2) (found .2))
+  late ticks low short =
+      let found = first-job tasks fit ticks low i isTask in
+      let own = found .1 in (
+        record { number = found .0; isJob = own .isJob; isOwn = own .isOwn },
+        own .atOnce,
+        λ x h. not-before ticks (scheduleOf tasks (synchronous tasks ticks)) (scheduleExists tasks ticks (synchronous tasks ticks))
+            (found .0) own x h (le-trans h short),
+      )
 
   answers : Answers tasks i (responseOf tasks i)
-  unfolding worst first
+  unfolding worst
   answers =
       record {
         upper = λ low run job h.
             finished-in-time tasks fit (run .ticks) (run .jobs) (run .legalJobs) calm i isTask (run .schedule) (run .legalSchedule)
             (job .number) (responseOf tasks i) (job .isJob) (job .isOwn) low (answered low .1) (le-of-eq (answered low .0 .solution)) h;
-        needsAll = λ low. (
-          worst (responseOf tasks i) low,
-          first (responseOf tasks i) low,
-          omega arith,
-          λ done. let v = solved (responseOf tasks i) low (answered low .1) _ done (omega arith) in
-              omega (arith, answered low .0 .least (v .0) (v .1 .positive) (v .1 .solution), v .2),
+        needsAll = λ low. let one = late (responseOf tasks i) low (answered low .1) in (
+          worst (responseOf tasks i),
+          one .0,
+          omega (arith, one .1),
+          λ done. omega (arith, one .2 _ (omega (arith, one .1)) done, one .1),
         );
-        missed = λ none. let low = fit .deadlineLow i isTask in (
-          worst (taskOf tasks i .deadline) low,
-          first (taskOf tasks i .deadline) low,
-          omega arith,
-          λ done. let v = solved (taskOf tasks i .deadline) low (omega arith) _ done (omega arith) in
-              omega (arith, v .1 .positive, answerMeans .answered (taskOf tasks i .cost) (loadsOf tasks i) 0 (taskOf tasks i .deadline) (v .0) (v .1) (omega (arith, v .2))),
+        missed = λ none. let one = late (taskOf tasks i .deadline) (fit .deadlineLow i isTask) (le-refl (taskOf tasks i .deadline)) in (
+          worst (taskOf tasks i .deadline),
+          one .0,
+          omega (arith, one .1),
+          λ done. omega (arith, one .2 _ (omega (arith, one .1)) done),
         );
       }
 
 pub demand3 : Demand3
 demand3 tasks fit calm i isTask = answers tasks fit calm i isTask
+
+pub synchronousIsWorst : SynchronousIsWorst
+synchronousIsWorst tasks fit calm ticks s law i j isTask own x h short =
+    record {
+      inTime = in-time tasks fit calm i isTask ticks s law j own x h short;
+      notBefore = not-before tasks fit calm i isTask ticks s law j own x h short;
+    }
 
 module _ (tasks : List Task) (i : ℕ) where
   -- of two such numbers that are not 0 none is the smaller

@@ -11,10 +11,11 @@ use mathlib.Core.Bool.{Bool, true, false}
 use mathlib.Core.List.{List}
 use lib.ListN.{length}
 use Rattle.model.specs.Choice.{pick}
+use Rattle.model.specs.Lists.{total}
 use Rattle.model.proofs.Tests.{bool?}
 use Rattle.runs.specs.Jobs.{Job, jobOf}
 use Rattle.runs.specs.Schedule.{Service, idle, serves, Schedule, countFor, servedBefore, Finished, Ready}
-use Rattle.runs.proofs.Sums.{total, total-mono, total-same, total-add, total-zero, total-point, total-tight}
+use Rattle.runs.proofs.Sums.{total-mono, total-same, total-add, total-zero, total-point, total-tight}
 use Rattle.runs.proofs.Windows.{within, within-is, within?, released, released-split, needOf}
 use Rattle.runs.proofs.Served.{ServesReady, served-grows, served-most, served-none, count-own, count-other, count-small}
 

@@ -8,12 +8,12 @@ use mathlib.Core.Path.{_≡_, refl, _∙_, ap}
 use mathlib.Core.List.{List}
 use lib.ListN.{length}
 use borrow.Author.Tests.{lt-ltb, le-ltb}
-use Rattle.model.specs.Lists.{keep}
+use Rattle.model.specs.Lists.{keep, total}
 use Rattle.model.specs.Tables.{Task, noTask, taskOf, loadOf, loadsOf, moreUrgent}
 use Rattle.equation.specs.Rounding.{ceilDiv}
 use Rattle.equation.specs.Demand.{share, demand}
 use Rattle.runs.specs.Jobs.{TasksFit, NoJitter}
-use Rattle.runs.proofs.Sums.{total, total-same, sum-map, sum-keep}
+use Rattle.runs.proofs.Sums.{total-same, sum-map, sum-keep}
 
 -- what the task at place p asks for in w ticks
 abbrev pub shareOf : List Task → ℕ → ℕ → ℕ

@@ -9,13 +9,8 @@ use mathlib.Core.Logic.{_≢_}
 use mathlib.Core.Bool.{Bool, true, false}
 use mathlib.Core.List.{List, [], _∷_, map}
 use lib.ListN.{length, getD}
-use Rattle.model.specs.Lists.{sumOf, tabulate, keep}
+use Rattle.model.specs.Lists.{sumOf, total, tabulate, keep}
 use Rattle.model.proofs.Lists.{sum-append}
-
--- f 0 + f 1 + .. + f (n − 1)
-unfoldable pub total : (ℕ → ℕ) → ℕ → ℕ
-total f zero = 0
-total f (suc n) = total f n + f n
 
 pub total-mono : (f g : ℕ → ℕ) (n : ℕ) → ((k : ℕ) → k < n → f k ≤ g k) → total f n ≤ total g n
 unfolding total
@@ -58,11 +53,23 @@ unfolding total
 total-grows f m zero = rw add-zero (le-refl (total f m))
 total-grows f m (suc k) = rw add-suc (omega (arith, total-grows f m k))
 
--- a sum of summands that are each at least c
-pub total-least : (c : ℕ) (f : ℕ → ℕ) (n : ℕ) → ((k : ℕ) → k < n → c ≤ f k) → c * n ≤ total f n
+-- a sum whose first m summands are c each, and whose later ones are 0
+pub total-first : (c : ℕ) (f : ℕ → ℕ) (m n : ℕ) → m ≤ n → ((k : ℕ) → k < m → f k ≡ c) → ((k : ℕ) → m ≤ k → k < n → f k ≡ 0) →
+    total f n ≡ c * m
 unfolding total
-total-least c f zero h = rw mul-zero (le-refl 0)
-total-least c f (suc n) h = rw mul-suc (omega (arith, total-least c f n (λ k l. h k (omega arith)), h n (lt-suc-self n)))
+total-first c f zero zero h first later = sym (mul-zero c)
+total-first c f (suc m) zero h first later = absurd (not-suc-le-zero h)
+total-first c f m (suc n) h first later =
+    elim (ℕ-discrete m (suc n)) [
+      | yes e ↦
+          rw (e, mul-suc)
+          (omega (
+            arith,
+            total-first c f n n (le-refl n) (λ k l. first k (omega arith)) (λ k l u. absurd (omega arith)),
+            first n (omega arith),
+          ))
+      | no d ↦ omega (arith, total-first c f m n (omega arith) first (λ k l u. later k l (omega arith)), later n (omega arith) (lt-suc-self n))
+    ]
 
 -- where no summand of f is above g's and the sums are the same, so are the summands
 pub total-tight : (f g : ℕ → ℕ) (n : ℕ) → ((k : ℕ) → k < n → f k ≤ g k) → total g n ≤ total f n → (k : ℕ) → k < n → g k ≤ f k

@@ -1,46 +1,34 @@
--- The run that asks for most: all tasks up to place i are released at 0 and then every T, at full cost. Its jobs are legal, and up to
--- each f they ask for demand(i, f).
+-- The run in which all tasks are released together: its jobs are legal, each place has a first job, and what places ask for up to
+-- each f.
 -- Assumes nothing.
 use Prim.Native.Nat.{ℕ, zero, suc, _+_, _*_, _≤_, _<_}
-use native.Mathlib.Nat.{suc-mul, mul-le-mul-right, le-refl, le-dest, le-of-eq, le-trans, not-suc-le-zero, lt-of-not-le}
-use native.Mathlib.Decide.{decLt}
+use native.Mathlib.Nat.{zero-mul, suc-mul, mul-le-mul-right, le-mul-of-pos-right, le-refl, le-dest, not-suc-le-zero, lt-of-not-le}
+use native.Mathlib.Decide.{decLt, ℕ-discrete}
 use native.Mathlib.Omega.{arith}
-use mathlib.Core.Path.{_≡_, sym, _∙_, ap}
+use mathlib.Core.Path.{_≡_, refl, sym, _∙_, ap}
 use mathlib.Core.Logic.{_≢_, inl, inr}
-use mathlib.Core.List.{List, [], _∷_, _++_}
-use lib.ListN.{length}
-use borrow.Author.Tests.{lt-ltb}
-use Rattle.model.specs.Lists.{sumOf, tabulate}
+use mathlib.Core.Bool.{Bool}
+use mathlib.Core.List.{List, _++_}
+use lib.Dec.{eqb, ltb}
+use lib.ListN.{length, length-append, List·getD-append}
+use lib.Seq.{getD-append-add}
+use borrow.Author.Tests.{lt-ltb, eq-eqb, ne-eqb}
+use Rattle.model.specs.Choice.{on}
+use Rattle.model.specs.Lists.{sumOf, total}
 use Rattle.model.specs.Tables.{Task, taskOf, loadsOf}
+use Rattle.model.proofs.Tests.{bool?, clash}
+use Rattle.model.proofs.Lists.{length-tabulate, getD-tabulate, sum-append}
 use Rattle.equation.specs.Rounding.{ceilDiv}
 use Rattle.equation.specs.Demand.{demand}
 use Rattle.equation.proofs.Laws.{roundingUp}
-use Rattle.model.proofs.Lists.{length-tabulate, getD-tabulate, sum-append}
+use Rattle.equation.proofs.RoundingLaws.{positive}
 use Rattle.runs.specs.Jobs.{Job, noJob, jobOf, TasksFit, NoJitter, LegalJobs}
-use Rattle.runs.proofs.Sums.{total, total-grows, total-least, sum-total, sum-tabulate}
+use Rattle.runs.specs.Synchronous.{jobAt, jobsAt, jobsBefore, synchronous, FirstJob}
+use Rattle.runs.proofs.Sums.{total-mono, total-zero, total-point, total-grows, total-first, sum-total, sum-tabulate}
 use Rattle.runs.proofs.Lists.{append-at, each-append}
-use Rattle.runs.proofs.Windows.{within, within-is, needOf, isBefore}
+use Rattle.runs.proofs.Windows.{within, within-is, within?, needOf, isOf, isBefore}
 use Rattle.runs.proofs.Engine.{asked}
 use Rattle.runs.proofs.Loads.{shareOf, demand-is}
-
--- the job of place p that is released after k periods
-abbrev jobAt : List Task → ℕ → ℕ → Job
-jobAt tasks p k = record { place = p; release = k * taskOf tasks p .period; need = taskOf tasks p .cost }
-
--- those of them that are released in the run
-abbrev jobsAt : List Task → ℕ → ℕ → List Job
-jobsAt tasks ticks p = tabulate (jobAt tasks p) (ceilDiv ticks (taskOf tasks p .period))
-
--- those of the places before m
-unfoldable pub jobsBefore : List Task → ℕ → ℕ → List Job
-jobsBefore tasks ticks zero = []
-jobsBefore tasks ticks (suc m) = jobsBefore tasks ticks m ++ jobsAt tasks ticks m
-
-abbrev firstJob : List Task → ℕ → Job
-firstJob tasks i = record { place = i; release = 0; need = taskOf tasks i .cost }
-
-abbrev pub together : List Task → ℕ → ℕ → List Job
-together tasks ticks i = firstJob tasks i ∷ jobsBefore tasks ticks i
 
 -- what the run asks of one job
 record Fits (tasks : List Task) (ticks m : ℕ) (job : Job) : Type 0 where
@@ -122,69 +110,139 @@ module _ (tasks : List Task) (fit : TasksFit tasks) (ticks : ℕ) where
       apart-append tasks (jobsBefore tasks ticks m) (jobsAt tasks ticks m) (apart-before m (omega arith)) (apart-at m h)
       (λ a b l u. rw (jobsAt-is m b u) (omega (arith, fits-before m (omega arith) a l .before)))
 
-  module _ (i : ℕ) (isTask : i < length tasks) where
-    fits-together : 1 ≤ ticks → (j : ℕ) → j < length (together tasks ticks i) → Fits tasks ticks (suc i) (jobOf (together tasks ticks i) j)
-    fits-together low zero l =
-        record {
-          hasTask = isTask;
-          before = omega arith;
-          inRun = low;
-          needLow = fit .costLow i isTask;
-          needHigh = le-refl (taskOf tasks i .cost);
-        }
-    fits-together low (suc j) l = fits-more i (jobOf (jobsBefore tasks ticks i) j) (fits-before i (omega arith) j (omega arith))
+  pub synchronous-legal : LegalJobs tasks ticks (synchronous tasks ticks)
+  synchronous-legal =
+      let fits = fits-before (length tasks) (le-refl (length tasks)) in
+      record {
+        hasTask = λ j l. fits j l .hasTask;
+        inRun = λ j l. fits j l .inRun;
+        needLow = λ j l. fits j l .needLow;
+        needHigh = λ j l. fits j l .needHigh;
+        apart = apart-before (length tasks) (le-refl (length tasks));
+      }
 
-    apart-together : Apart tasks (together tasks ticks i)
-    apart-together =
-        apart-append tasks (firstJob tasks i ∷ []) (jobsBefore tasks ticks i) (λ a b l m d. absurd (d (omega arith)))
-        (apart-before i (omega arith)) differ
-      where
-        differ : (a b : ℕ) → a < length (firstJob tasks i ∷ []) → b < length (jobsBefore tasks ticks i) →
-            jobOf (firstJob tasks i ∷ []) a .place ≢ jobOf (jobsBefore tasks ticks i) b .place
-        differ zero b l m = omega (arith, fits-before i (omega arith) b m .before)
-        differ (suc a) b l m = absurd (omega arith)
+  -- each place before m has a job that is released at 0
+  first-before : 1 ≤ ticks → (i m : ℕ) → i < m → m ≤ length tasks → (j : ℕ) × FirstJob (jobsBefore tasks ticks m) i j
+  unfolding jobsBefore
+  first-before low i zero l h = absurd (not-suc-le-zero l)
+  first-before low i (suc m) l h =
+      let left : List Job = jobsBefore tasks ticks m in
+      let right : List Job = jobsAt tasks ticks m in
+      elim (ℕ-discrete i m) [
+        | yes e ↦
+            let some : 0 < length right = rw (jobsAt-length m) (positive ticks (taskOf tasks m .period) (fit .periodLow m h) low) in
+            let here : jobOf (left ++ right) (length left + 0) ≡ jobAt tasks m 0 = getD-append-add left right 0 noJob ∙ jobsAt-is m 0 some in (
+              length left + 0,
+              record {
+                isJob = omega (arith, length-append left right);
+                isOwn = ap (λ (x : Job). x .place) here ∙ sym e;
+                atOnce = ap (λ (x : Job). x .release) here ∙ zero-mul (taskOf tasks m .period);
+              },
+            )
+        | no d ↦
+            let found = first-before low i m (omega arith) (omega arith) in
+            let first : FirstJob left i (found .0) = found .1 in
+            let here : jobOf (left ++ right) (found .0) ≡ jobOf left (found .0) = List·getD-append left right noJob (found .0) (first .isJob) in (
+              found .0,
+              record {
+                isJob = omega (arith, length-append left right, first .isJob);
+                isOwn = ap (λ (x : Job). x .place) here ∙ first .isOwn;
+                atOnce = ap (λ (x : Job). x .release) here ∙ first .atOnce;
+              },
+            )
+      ]
 
-    pub together-legal : 1 ≤ ticks → LegalJobs tasks ticks (together tasks ticks i)
-    together-legal low =
-        record {
-          hasTask = λ j l. fits-together low j l .hasTask;
-          inRun = λ j l. fits-together low j l .inRun;
-          needLow = λ j l. fits-together low j l .needLow;
-          needHigh = λ j l. fits-together low j l .needHigh;
-          apart = apart-together;
-        }
+  pub first-job : 1 ≤ ticks → (i : ℕ) → i < length tasks → (j : ℕ) × FirstJob (synchronous tasks ticks) i j
+  first-job low i isTask = first-before low i (length tasks) isTask (le-refl (length tasks))
 
-    module _ (f : ℕ) (short : f ≤ ticks) where
-      -- what one job has asked for before f
-      abbrev asksOf : Job → ℕ
-      asksOf = within (isBefore (suc i)) needOf 0 f
+  -- no other job of a place is released before its period ends
+  pub only-first : (i j k : ℕ) → FirstJob (synchronous tasks ticks) i j → k < length (synchronous tasks ticks) →
+      jobOf (synchronous tasks ticks) k .place ≡ i → jobOf (synchronous tasks ticks) k .release < taskOf tasks i .period → j ≡ k
+  only-first i j k first l own early =
+      elim (ℕ-discrete j k) [
+        | yes e ↦ e
+        | no d ↦
+            absurd (omega (
+              arith,
+              first .atOnce,
+              rw (first .isOwn) at (synchronous-legal .apart j k (first .isJob) l d (first .isOwn ∙ sym own) (omega (arith, first .atOnce))),
+            ))
+      ]
 
-      place-asks : (p : ℕ) → p < i → shareOf tasks f p ≤ sumOf asksOf (jobsAt tasks ticks p)
-      place-asks p l =
-          let period : ℕ = taskOf tasks p .period in
-          let more = le-dest (roundingUp .monotone f ticks period short) in
-          rw (sum-tabulate asksOf (jobAt tasks p) (ceilDiv ticks period), ← (more .1))
-          (le-trans
-          (total-least (taskOf tasks p .cost) (λ k. asksOf (jobAt tasks p k)) (ceilDiv f period)
-          (λ k u. le-of-eq (sym (within-is (isBefore (suc i)) needOf 0 f (jobAt tasks p k)
-          (record { isIn = lt-ltb p (suc i) (omega arith); late = omega arith; early = multiple-below p k f (omega arith) u })))))
-          (total-grows (λ k. asksOf (jobAt tasks p k)) (ceilDiv f period) (more .0)))
+  -- a set of jobs that is a set of places
+  module _ (test : ℕ → Bool) (f : ℕ) (short : f ≤ ticks) where
+    abbrev ofPlaces : Job → Bool
+    ofPlaces job = test (job .place)
 
-      places-ask : (m : ℕ) → m ≤ i → total (shareOf tasks f) m ≤ sumOf asksOf (jobsBefore tasks ticks m)
-      unfolding jobsBefore total
-      places-ask zero h = omega arith
-      places-ask (suc m) h =
-          rw (sum-append asksOf (jobsBefore tasks ticks m) (jobsAt tasks ticks m))
-          (omega (arith, places-ask m (omega arith), place-asks m (omega arith)))
+    -- what one job has asked for before f
+    abbrev asksOf : Job → ℕ
+    asksOf = within ofPlaces needOf 0 f
 
-      pub together-asks : NoJitter tasks → 1 ≤ f →
-          demand (taskOf tasks i .cost) (loadsOf tasks i) f ≤ asked (isBefore (suc i)) (together tasks ticks i) f
-      unfolding sumOf
-      together-asks calm low =
-          rw (demand-is tasks fit calm (taskOf tasks i .cost) i f isTask, ← (sum-total asksOf noJob (together tasks ticks i)))
-          (omega (
-            arith,
-            places-ask i (le-refl i),
-            within-is (isBefore (suc i)) needOf 0 f (firstJob tasks i)
-                (record { isIn = lt-ltb i (suc i) (omega arith); late = omega arith; early = low }),
-          ))
+    -- the jobs of a place of the set have asked for its share, the others for nothing
+    place-asks : (p : ℕ) → p < length tasks → sumOf asksOf (jobsAt tasks ticks p) ≡ on (test p) (shareOf tasks f p)
+    place-asks p h =
+        let period : ℕ = taskOf tasks p .period in
+        rw (sum-tabulate asksOf (jobAt tasks p) (ceilDiv ticks period))
+        (elim (bool? (test p)) [
+          | inl y ↦
+              rw y (total-first (taskOf tasks p .cost) (λ k. asksOf (jobAt tasks p k)) (ceilDiv f period) (ceilDiv ticks period)
+              (roundingUp .monotone f ticks period short)
+              (λ k l. within-is ofPlaces needOf 0 f (jobAt tasks p k) (record { isIn = y; late = omega arith; early = multiple-below p k f h l }))
+              (λ k l u. elim (within? ofPlaces needOf 0 f (jobAt tasks p k)) [
+                | inl i ↦
+                    absurd (omega (
+                      arith,
+                      roundingUp .enough f period (fit .periodLow p h),
+                      mul-le-mul-right period l,
+                      i .early,
+                    ))
+                | inr z ↦ z
+              ]))
+          | inr n ↦
+              rw n (total-zero (λ k. asksOf (jobAt tasks p k)) (ceilDiv ticks period)
+              (λ k l. elim (within? ofPlaces needOf 0 f (jobAt tasks p k)) [
+                | inl i ↦ absurd (clash (test p) (i .isIn) n)
+                | inr z ↦ z
+              ]))
+        ])
+
+    abbrev shareIn : ℕ → ℕ
+    shareIn p = on (test p) (shareOf tasks f p)
+
+    places-ask : (m : ℕ) → m ≤ length tasks → sumOf asksOf (jobsBefore tasks ticks m) ≡ total shareIn m
+    unfolding jobsBefore total sumOf
+    places-ask zero h = refl
+    places-ask (suc m) h =
+        rw (sum-append asksOf (jobsBefore tasks ticks m) (jobsAt tasks ticks m))
+        (omega (arith, places-ask m (omega arith), place-asks m h))
+
+    asked-places : asked ofPlaces (synchronous tasks ticks) f ≡ total shareIn (length tasks)
+    asked-places = sym (sum-total asksOf noJob (synchronous tasks ticks)) ∙ places-ask (length tasks) (le-refl (length tasks))
+
+  module _ (f : ℕ) (short : f ≤ ticks) (i : ℕ) (isTask : i < length tasks) where
+    -- before f a place has asked for its cost as often as periods begin
+    pub asked-place : asked (isOf i) (synchronous tasks ticks) f ≡ shareOf tasks f i
+    asked-place =
+        asked-places (λ p. eqb p i) f short
+        ∙ total-point (λ p. on (eqb p i) (shareOf tasks f p)) i (length tasks) isTask (λ p l d. rw (ne-eqb p i d) refl)
+        ∙ rw (eq-eqb i i refl) refl
+
+    -- and the places up to i have asked for demand(i, f) or more
+    pub asked-demand : NoJitter tasks → 1 ≤ f →
+        demand (taskOf tasks i .cost) (loadsOf tasks i) f ≤ asked (isBefore (suc i)) (synchronous tasks ticks) f
+    unfolding total
+    asked-demand calm low =
+        let share : ℕ → ℕ = λ p. on (ltb p (suc i)) (shareOf tasks f p) in
+        let more = le-dest isTask in
+        let rounded : 1 ≤ ceilDiv f (taskOf tasks i .period) = positive f (taskOf tasks i .period) (fit .periodLow i isTask) low in
+        let own : taskOf tasks i .cost ≤ share i =
+        rw (lt-ltb i (suc i) (omega arith)) (le-mul-of-pos-right (taskOf tasks i .cost) rounded) in
+        rw (demand-is tasks fit calm (taskOf tasks i .cost) i f isTask, asked-places (λ p. ltb p (suc i)) f short)
+        (omega (
+          arith,
+          own,
+          total-mono (shareOf tasks f) share i
+              (λ p l. rw (lt-ltb p (suc i) (omega arith)) (le-refl (shareOf tasks f p))),
+          total-grows share (suc i) (more .0),
+          ap (total share) (more .1),
+        ))

@@ -7,13 +7,14 @@ use mathlib.Core.Path.{_≡_}
 use mathlib.Core.List.{List}
 use lib.ListN.{length}
 use borrow.Author.Tests.{ltb-true, lt-ltb}
+use Rattle.model.specs.Lists.{total}
 use Rattle.model.specs.Tables.{Task, taskOf, loadsOf}
 use Rattle.equation.specs.Rounding.{ceilDiv}
 use Rattle.equation.specs.Demand.{demand}
 use Rattle.equation.proofs.Laws.{roundingUp}
 use Rattle.runs.specs.Jobs.{Job, jobOf, TasksFit, NoJitter, LegalJobs}
 use Rattle.runs.specs.Schedule.{Schedule, Finished, LegalSchedule}
-use Rattle.runs.proofs.Sums.{total, total-mono}
+use Rattle.runs.proofs.Sums.{total-mono}
 use Rattle.runs.proofs.Windows.{released, released-places, needOf, isOf, isBefore}
 use Rattle.runs.proofs.Counting.{asks}
 use Rattle.runs.proofs.Engine.{Favours, finished-within}

@@ -11,9 +11,10 @@ use lib.ListN.{length}
 use lib.Dec.{leb, ltb, eqb}
 use borrow.Author.Tests.{ltb-true, lt-ltb, lt-leb, le-leb, eq-eqb}
 use Rattle.model.specs.Choice.{pick, both}
+use Rattle.model.specs.Lists.{total}
 use Rattle.model.proofs.Tests.{bool?, leb?, ltb?}
 use Rattle.runs.specs.Jobs.{Job, jobOf}
-use Rattle.runs.proofs.Sums.{total, total-mono, total-same, total-add, total-zero}
+use Rattle.runs.proofs.Sums.{total-mono, total-same, total-add, total-zero}
 
 -- a job's weight, if it is of the set and released in the ticks from `from` and before `to`; else 0
 unfoldable pub within : (Job → Bool) → (Job → ℕ) → ℕ → ℕ → Job → ℕ

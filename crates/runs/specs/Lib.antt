@@ -3,3 +3,4 @@ pub mod Schedule
 pub mod Statement
 pub mod Scheduler
 pub mod Examples
+pub mod Synchronous
