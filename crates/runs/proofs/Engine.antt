@@ -10,14 +10,14 @@ use mathlib.Core.Logic.{_≢_, _⊎_, inl, inr}
 use mathlib.Core.Bool.{Bool, true, false}
 use mathlib.Core.List.{List}
 use lib.ListN.{length}
-use Rattle.model.specs.Choice.{pick}
+use Rattle.model.specs.Choice.{pick, on}
 use Rattle.model.specs.Lists.{total}
-use Rattle.model.proofs.Tests.{bool?}
+use Rattle.model.proofs.Tests.{bool?, on-high}
 use Rattle.runs.specs.Jobs.{Job, jobOf}
 use Rattle.runs.specs.Schedule.{Service, idle, serves, Schedule, countFor, servedBefore, Finished, Ready}
 use Rattle.runs.proofs.Sums.{total-mono, total-same, total-add, total-zero, total-point, total-tight}
 use Rattle.runs.proofs.Windows.{within, within-is, within?, released, released-split, needOf}
-use Rattle.runs.proofs.Served.{ServesReady, served-grows, served-most, served-none, count-own, count-other, count-small}
+use Rattle.runs.proofs.Served.{ServesReady, served-grows, served-most, served-none, count-own, count-other}
 
 -- A schedule favours a set if it serves ready jobs alone, and one of the set whenever one of the set is ready.
 pub record Favours (set : Job → Bool) (ticks : ℕ) (jobs : List Job) (s : Schedule) : Type 0 where
@@ -33,50 +33,42 @@ Quiet set jobs s t = (j : ℕ) → j < length jobs → set (jobOf jobs j) ≡ tr
 abbrev pub asked : (Job → Bool) → List Job → ℕ → ℕ
 asked set jobs t = released set needOf jobs 0 t
 
-abbrev workedOn : (Job → Bool) → List Job → Schedule → ℕ → ℕ → ℕ
+abbrev pub workedOn : (Job → Bool) → List Job → Schedule → ℕ → ℕ → ℕ
 workedOn set jobs s t j = pick (set (jobOf jobs j)) (servedBefore s j t) 0
 
 abbrev pub worked : (Job → Bool) → List Job → Schedule → ℕ → ℕ
 worked set jobs s t = total (workedOn set jobs s t) (length jobs)
 
 -- what a tick that serves so adds for job j
-abbrev added : (Job → Bool) → List Job → Service → ℕ → ℕ
+abbrev pub added : (Job → Bool) → List Job → Service → ℕ → ℕ
 added set jobs v j = pick (set (jobOf jobs j)) (countFor j v) 0
 
 module _ (set : Job → Bool) (jobs : List Job) where
-  added-own : (k : ℕ) → set (jobOf jobs k) ≡ true → added set jobs (serves k) k ≡ 1
-  added-own k p = rw p (count-own k)
-
   added-other : (k j : ℕ) → j ≢ k → added set jobs (serves k) j ≡ 0
   added-other k j d = elim (bool? (set (jobOf jobs j))) [ inl p ↦ rw p (count-other j k d) | inr p ↦ rw p refl ]
 
-  added-at-most : (v : Service) (j : ℕ) → added set jobs v j ≤ 1
-  added-at-most v j = elim (bool? (set (jobOf jobs j))) [ inl p ↦ rw p (count-small j v) | inr p ↦ rw p (omega arith) ]
+  -- an idle tick adds nothing, and one that serves a job adds 1 if the job is of the set
+  pub added-idle : total (added set jobs idle) (length jobs) ≡ 0
+  added-idle =
+      total-zero (added set jobs idle) (length jobs)
+      (λ j l. elim (bool? (set (jobOf jobs j))) [ inl p ↦ rw p refl | inr p ↦ rw p refl ])
+
+  pub added-serves : (k : ℕ) → k < length jobs → total (added set jobs (serves k)) (length jobs) ≡ on (set (jobOf jobs k)) 1
+  added-serves k l =
+      total-point (added set jobs (serves k)) k (length jobs) l (λ j m d. added-other k j d)
+      ∙ ap (on (set (jobOf jobs k))) (count-own k)
 
   -- a tick serves at most one job
   added-small : (v : Service) → total (added set jobs v) (length jobs) ≤ 1
-  added-small idle =
-      omega (
-        arith,
-        total-zero (added set jobs idle) (length jobs)
-            (λ j l. elim (bool? (set (jobOf jobs j))) [ inl p ↦ rw p refl | inr p ↦ rw p refl ]),
-      )
+  added-small idle = omega (arith, added-idle)
   added-small (serves k) =
       elim (decLt k (length jobs)) [
-        | yes l ↦
-            omega (
-              arith,
-              added-at-most (serves k) k,
-              total-point (added set jobs (serves k)) k (length jobs) l (λ j m d. added-other k j d),
-            )
+        | yes l ↦ omega (arith, added-serves k l, on-high (set (jobOf jobs k)) 1)
         | no l ↦ omega (arith, total-zero (added set jobs (serves k)) (length jobs) (λ j m. added-other k j (omega arith)))
       ]
 
-  added-full : (k : ℕ) → k < length jobs → set (jobOf jobs k) ≡ true → total (added set jobs (serves k)) (length jobs) ≡ 1
-  added-full k l p = total-point (added set jobs (serves k)) k (length jobs) l (λ j m d. added-other k j d) ∙ added-own k p
-
 module _ (set : Job → Bool) (jobs : List Job) (s : Schedule) where
-  worked-next : (t : ℕ) → worked set jobs s (suc t) ≡ worked set jobs s t + total (added set jobs (s t)) (length jobs)
+  pub worked-next : (t : ℕ) → worked set jobs s (suc t) ≡ worked set jobs s t + total (added set jobs (s t)) (length jobs)
   unfolding servedBefore
   worked-next t =
       total-same (workedOn set jobs s (suc t)) (λ j. workedOn set jobs s t j + added set jobs (s t) j) (length jobs)
@@ -102,7 +94,15 @@ module _ (set : Job → Bool) (jobs : List Job) (s : Schedule) where
         | inr z ↦ omega arith
       ])
 
-  module _ (ticks : ℕ) (favours : Favours set ticks jobs s) where
+  -- where no job of the set is ready at a tick, the set is quiet after it
+  pub quiet-next : (t : ℕ) → ((k : ℕ) → Ready jobs s k t → set (jobOf jobs k) ≡ true → ⊥) → Quiet set jobs s (suc t)
+  quiet-next t none j l p r =
+      elim (decLe (jobOf jobs j .need) (servedBefore s j t)) [
+        | yes f ↦ le-trans f (served-grows s j t (suc t) (omega arith))
+        | no f ↦ absurd (none j (record { isJob = l; released = omega arith; unfinished = f }) p)
+      ]
+
+  module _ (ticks : ℕ) (ready : ServesReady ticks jobs s) where
     -- a job is served what it asked for, and no more
     worked-most : (t j : ℕ) → t ≤ ticks → workedOn set jobs s t j ≤ within set needOf 0 t (jobOf jobs j)
     worked-most t j h =
@@ -111,31 +111,25 @@ module _ (set : Job → Bool) (jobs : List Job) (s : Schedule) where
           | inl p ↦ elim (decLt (jobOf jobs j .release) t) [
             | yes l ↦
                 rw (p, within-is set needOf 0 t (jobOf jobs j) (record { isIn = p; late = omega arith; early = l }))
-                (served-most ticks jobs s (favours .ready) j t h)
-            | no l ↦ rw p (omega (arith, served-none ticks jobs s (favours .ready) j t h (omega arith)))
+                (served-most ticks jobs s ready j t h)
+            | no l ↦ rw p (omega (arith, served-none ticks jobs s ready j t h (omega arith)))
           ]
         ]
 
     -- where all that the set asked for was served, it is quiet
-    asked-quiet : (t : ℕ) → t ≤ ticks → asked set jobs t ≤ worked set jobs s t → Quiet set jobs s t
+    pub asked-quiet : (t : ℕ) → t ≤ ticks → asked set jobs t ≤ worked set jobs s t → Quiet set jobs s t
     asked-quiet t h enough j l p r =
         rw (p, within-is set needOf 0 t (jobOf jobs j) (record { isIn = p; late = omega arith; early = r })) at
         (total-tight (workedOn set jobs s t) (λ k. within set needOf 0 t (jobOf jobs k)) (length jobs)
         (λ k m. worked-most t k h) enough j l)
 
+  module _ (ticks : ℕ) (favours : Favours set ticks jobs s) where
     -- a tick serves the set, or the set is quiet after it
     serve-or-quiet : (t : ℕ) → t < ticks → (worked set jobs s t + 1 ≤ worked set jobs s (suc t)) ⊎ Quiet set jobs s (suc t)
     serve-or-quiet t h = go (s t) refl
       where
-        quiet : ((k : ℕ) → Ready jobs s k t → set (jobOf jobs k) ≡ true → ⊥) → Quiet set jobs s (suc t)
-        quiet none j l p r =
-            elim (decLe (jobOf jobs j .need) (servedBefore s j t)) [
-              | yes f ↦ le-trans f (served-grows s j t (suc t) (omega arith))
-              | no f ↦ absurd (none j (record { isJob = l; released = omega arith; unfinished = f }) p)
-            ]
-
         go : (v : Service) → s t ≡ v → (worked set jobs s t + 1 ≤ worked set jobs s (suc t)) ⊎ Quiet set jobs s (suc t)
-        go idle e = inr (quiet (λ k r p. let z : _≡_ {A = ℕ} 0 1 = cc (favours .closed t k h r p .1) in omega arith))
+        go idle e = inr (quiet-next t (λ k r p. let z : _≡_ {A = ℕ} 0 1 = cc (favours .closed t k h r p .1) in omega arith))
         go (serves k) e =
             elim (bool? (set (jobOf jobs k))) [
               | inl p ↦
@@ -143,9 +137,10 @@ module _ (set : Job → Bool) (jobs : List Job) (s : Schedule) where
                     arith,
                     worked-next t,
                     ap (λ (v : Service). total (added set jobs v) (length jobs)) e,
-                    added-full set jobs k (favours .ready t k h e .isJob) p,
+                    added-serves set jobs k (favours .ready t k h e .isJob),
+                    ap (λ (b : Bool). on b 1) p,
                   ))
-              | inr p ↦ inr (quiet (λ i r q. let c = favours .closed t i h r q in other k p e (c .0) (c .1) (c .2)))
+              | inr p ↦ inr (quiet-next t (λ i r q. let c = favours .closed t i h r q in other k p e (c .0) (c .1) (c .2)))
             ]
           where
             other : (k : ℕ) → set (jobOf jobs k) ≡ false → s t ≡ serves k → (j : ℕ) → s t ≡ serves j → set (jobOf jobs j) ≡ true → ⊥
@@ -174,7 +169,7 @@ module _ (set : Job → Bool) (jobs : List Job) (s : Schedule) where
             a + w,
             omega arith,
             le-refl (a + w),
-            asked-quiet (a + w) h
+            asked-quiet ticks (favours .ready) (a + w) h
                 (omega (arith, quiet-asked a q, released-split set needOf jobs 0 a (a + w) (omega arith) (omega arith))),
           )
         ]

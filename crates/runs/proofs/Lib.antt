@@ -8,6 +8,7 @@ pub mod Upper
 pub mod Lists
 pub mod Together
 pub mod Lower
+pub mod TickLaws
 pub mod Compute
 pub mod Unique
 pub mod Demand3
