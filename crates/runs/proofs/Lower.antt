@@ -51,6 +51,7 @@ module _ (tasks : List Task) (fit : TasksFit tasks) (ticks : ℕ) (s : Schedule)
             subst (λ (n : ℕ). Finished jobs s n (suc t)) (only-first tasks fit ticks i j k first l own (omega arith)) done
       ]
 
+  -- so if the first job of i is finished at x, some f up to x is enough for all that is asked before it
   pub finished-demand : NoJitter tasks → (x : ℕ) → x ≤ ticks → x ≤ taskOf tasks i .period → Finished jobs s j x →
       (f : ℕ) × (1 ≤ f) × (f ≤ x) × (demand (taskOf tasks i .cost) (loadsOf tasks i) f ≤ f)
   finished-demand calm x h short done =

@@ -59,6 +59,7 @@ module _ (ticks : ℕ) (jobs : List Job) (s : Schedule) (ready : ServesReady tic
         ]
       ]
 
+  -- so what the place has left and what it was served are what it has asked for
   left-worked : workLeft jobs s t p + worked (isOf p) jobs s t ≡ asked (isOf p) jobs t
   left-worked =
       sym (total-add (stillNeeded jobs s t p) (workedOn (isOf p) jobs s t) (length jobs))
@@ -81,6 +82,7 @@ module _ (tasks : List Task) (fit : TasksFit tasks) (ticks : ℕ) (s : Schedule)
   pub work-none : (p : ℕ) → workLeft (synchronous tasks ticks) s 0 p ≡ 0
   work-none p = quiet-none ticks jobs s (law .ready) 0 p (omega arith) (λ j l y r. absurd (omega arith))
 
+  -- what a tick adds for a place is what it serves of it
   added-place : (t p : ℕ) → t < ticks → (v : Service) → s t ≡ v → total (added (isOf p) jobs v) (length jobs) ≡ servedPlace jobs v p
   added-place t p h idle e = added-idle (isOf p) jobs
   added-place t p h (serves j) e = added-serves (isOf p) jobs j (law .ready t j h e .isJob)

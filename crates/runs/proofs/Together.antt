@@ -110,6 +110,7 @@ module _ (tasks : List Task) (fit : TasksFit tasks) (ticks : ℕ) where
       apart-append tasks (jobsBefore tasks ticks m) (jobsAt tasks ticks m) (apart-before m (omega arith)) (apart-at m h)
       (λ a b l u. rw (jobsAt-is m b u) (omega (arith, fits-before m (omega arith) a l .before)))
 
+  -- so the jobs are legal, in a run of any number of ticks
   pub synchronous-legal : LegalJobs tasks ticks (synchronous tasks ticks)
   synchronous-legal =
       let fits = fits-before (length tasks) (le-refl (length tasks)) in
@@ -152,6 +153,7 @@ module _ (tasks : List Task) (fit : TasksFit tasks) (ticks : ℕ) where
             )
       ]
 
+  -- so each task has its first job, if the run has a tick at all
   pub first-job : 1 ≤ ticks → (i : ℕ) → i < length tasks → (j : ℕ) × FirstJob (synchronous tasks ticks) i j
   first-job low i isTask = first-before low i (length tasks) isTask (le-refl (length tasks))
 
@@ -178,8 +180,12 @@ module _ (tasks : List Task) (fit : TasksFit tasks) (ticks : ℕ) where
     abbrev asksOf : Job → ℕ
     asksOf = within ofPlaces needOf 0 f
 
+    -- what place p has asked for before f, if it is of the set
+    abbrev shareIn : ℕ → ℕ
+    shareIn p = on (test p) (shareOf tasks f p)
+
     -- the jobs of a place of the set have asked for its share, the others for nothing
-    place-asks : (p : ℕ) → p < length tasks → sumOf asksOf (jobsAt tasks ticks p) ≡ on (test p) (shareOf tasks f p)
+    place-asks : (p : ℕ) → p < length tasks → sumOf asksOf (jobsAt tasks ticks p) ≡ shareIn p
     place-asks p h =
         let period : ℕ = taskOf tasks p .period in
         rw (sum-tabulate asksOf (jobAt tasks p) (ceilDiv ticks period))
@@ -206,9 +212,7 @@ module _ (tasks : List Task) (fit : TasksFit tasks) (ticks : ℕ) where
               ]))
         ])
 
-    abbrev shareIn : ℕ → ℕ
-    shareIn p = on (test p) (shareOf tasks f p)
-
+    -- so the places before m have asked for the sum of these
     places-ask : (m : ℕ) → m ≤ length tasks → sumOf asksOf (jobsBefore tasks ticks m) ≡ total shareIn m
     unfolding jobsBefore total sumOf
     places-ask zero h = refl
