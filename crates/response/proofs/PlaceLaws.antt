@@ -11,7 +11,7 @@ use Rattle.model.specs.Search.{firstOf}
 use Rattle.model.proofs.Tests.{bool?, clash}
 use Rattle.model.proofs.First as first-laws
 use Rattle.tables.specs.declared.Refusal.{Refusal}
-use Rattle.tables.specs.declared.Refusal.the-variants.{TooShort, UnknownVersion, CountOutOfRange, LengthsDiffer, NumberOutOfRange, PriorityOutOfOrder, SectionRow, NoRoom}
+use Rattle.tables.specs.declared.Refusal.the-variants.{TooShort, UnknownVersion, CountOutOfRange, LengthsDiffer, NumberOutOfRange, PriorityOutOfOrder, SectionRow, NoRoom, NotPlayable}
 use Rattle.tables.specs.declared.Check.{Check}
 use Rattle.tables.specs.declared.Check.the-variants as check
 use Rattle.tables.specs.Layout.{taskCount, tableOf}
@@ -34,6 +34,7 @@ refusal-place bytes answers rounds (NumberOutOfRange i) d = omega (arith, d .1, 
 refusal-place bytes answers rounds (PriorityOutOfOrder i) d = omega (arith, d .1, d .0 .counts .tasksHigh)
 refusal-place bytes answers rounds (SectionRow k) d = omega (arith, d .2, d .0 .counts .rowsHigh)
 refusal-place bytes answers rounds NoRoom d = omega arith
+refusal-place bytes answers rounds NotPlayable d = omega arith
 
 pub schedulable-only : (v : Verdict) → isSchedulable v ≡ true → v ≡ verdict.Schedulable
 schedulable-only (verdict.Refused r) p = absurd (clash false p refl)

@@ -14,7 +14,7 @@ use Rattle.model.specs.Search.{firstOf}
 use Rattle.model.proofs.Tests.{bool?, clash}
 use Rattle.model.proofs.First as first-laws
 use Rattle.tables.specs.declared.Refusal.{Refusal}
-use Rattle.tables.specs.declared.Refusal.the-variants.{TooShort, UnknownVersion, CountOutOfRange, LengthsDiffer, NumberOutOfRange, PriorityOutOfOrder, SectionRow, NoRoom}
+use Rattle.tables.specs.declared.Refusal.the-variants.{TooShort, UnknownVersion, CountOutOfRange, LengthsDiffer, NumberOutOfRange, PriorityOutOfOrder, SectionRow, NoRoom, NotPlayable}
 use Rattle.tables.specs.declared.Check.{Check}
 use Rattle.tables.specs.declared.Check.the-variants.{Clean, Refused}
 use Rattle.tables.specs.Layout.{versionOf, taskCount, rowCount, taskAt}
@@ -362,3 +362,4 @@ module _ (bytes : List ℕ) where
         (stop-refused (roomCheck bytes answers rounds) Clean NoRoom
         (unless-fails _ NoRoom
         (fails (both (leb (taskCount bytes) answers) (leb (taskCount bytes) rounds)) (meaning.room-means bytes answers rounds) (d .1))))))
+    table-gives NotPlayable d = absurd d

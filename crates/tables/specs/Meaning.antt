@@ -6,7 +6,7 @@ use mathlib.Core.List.{List}
 use lib.ListN.{length}
 use Rattle.model.specs.Tables.{Row}
 use Rattle.tables.specs.declared.Refusal.{Refusal}
-use Rattle.tables.specs.declared.Refusal.the-variants.{TooShort, UnknownVersion, CountOutOfRange, LengthsDiffer, NumberOutOfRange, PriorityOutOfOrder, SectionRow, NoRoom}
+use Rattle.tables.specs.declared.Refusal.the-variants.{TooShort, UnknownVersion, CountOutOfRange, LengthsDiffer, NumberOutOfRange, PriorityOutOfOrder, SectionRow, NoRoom, NotPlayable}
 use Rattle.tables.specs.Layout.{versionOf, statedLength, taskCount, rowCount, lengthFor, taskAt, rowAt, priorityIn, periodIn, costIn, deadlineIn, jitterIn}
 
 -- 1: "fewer than 5 bytes"
@@ -99,3 +99,5 @@ Deserved bytes answers rounds (SectionRow k) =
     HeadRight bytes × RecordsRight bytes (taskCount bytes) × (k .0 < rowCount bytes) × RowsRight bytes (k .0)
     × (¬ RowInOrder bytes (k .0))
 Deserved bytes answers rounds NoRoom = TableRight bytes × (¬ RoomFor bytes answers rounds)
+-- no rule of document 01: the analysis never gives it
+Deserved bytes answers rounds NotPlayable = ⊥

@@ -5,7 +5,7 @@ use mathlib.Core.Bool.{Bool, true, false}
 use mathlib.Core.List.{List, [], _∷_}
 use Rattle.model.specs.declared.Place.{Place}
 use Rattle.tables.specs.declared.Refusal.{Refusal}
-use Rattle.tables.specs.declared.Refusal.the-variants.{TooShort, UnknownVersion, CountOutOfRange, LengthsDiffer, NumberOutOfRange, PriorityOutOfOrder, SectionRow, NoRoom}
+use Rattle.tables.specs.declared.Refusal.the-variants.{TooShort, UnknownVersion, CountOutOfRange, LengthsDiffer, NumberOutOfRange, PriorityOutOfOrder, SectionRow, NoRoom, NotPlayable}
 use Rattle.tables.specs.declared.Check.{Check}
 use Rattle.tables.specs.declared.Check.the-variants.{Clean, Refused}
 
@@ -18,6 +18,8 @@ numberOf (NumberOutOfRange place) = 5
 numberOf (PriorityOutOfOrder place) = 6
 numberOf (SectionRow place) = 7
 numberOf NoRoom = 8
+-- document 02, L1: "a new refusal 9, after 8, place 0"
+numberOf NotPlayable = 9
 
 abbrev pub placeOf : Refusal → ℕ
 placeOf TooShort = 0
@@ -28,6 +30,7 @@ placeOf (NumberOutOfRange place) = place .0
 placeOf (PriorityOutOfOrder place) = place .0
 placeOf (SectionRow place) = place .0
 placeOf NoRoom = 0
+placeOf NotPlayable = 0
 
 abbrev pub at : ℕ → Place
 at i = record { 0 = i }

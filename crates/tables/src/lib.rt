@@ -24,7 +24,7 @@ pub const MOST_TICKS: u32 = 1000000;
 
 pub const MOST_SEMAPHORE: u32 = 16;
 
-// Why a table is refused, in the order of document 01's table.
+// Why a table is refused, in the order of document 01's table. The last one is document 02's (L1): the analysis never gives it.
 pub enum Refusal {
     TooShort,
     UnknownVersion,
@@ -34,6 +34,7 @@ pub enum Refusal {
     PriorityOutOfOrder(Place),
     SectionRow(Place),
     NoRoom,
+    NotPlayable,
 }
 
 // What a check finds.
@@ -55,6 +56,7 @@ pub fn number(refusal: Refusal) -> u32
         Refusal::PriorityOutOfOrder(_) => 6,
         Refusal::SectionRow(_) => 7,
         Refusal::NoRoom => 8,
+        Refusal::NotPlayable => 9,
     }
 }
 
@@ -71,5 +73,6 @@ pub fn place(refusal: Refusal) -> usize
         Refusal::PriorityOutOfOrder(at) => at.0,
         Refusal::SectionRow(at) => at.0,
         Refusal::NoRoom => 0,
+        Refusal::NotPlayable => 0,
     }
 }
