@@ -111,6 +111,13 @@ unfolding largestTo
 largest-high f zero high h = omega arith
 largest-high f (suc n) high h = omega (arith, largest-high f n high (λ k l. h k (omega arith)), h n (omega arith))
 
+-- and each is at most the largest
+pub largest-low : (f : ℕ → ℕ) (n k : ℕ) → k < n → f k ≤ largestTo f n
+unfolding largestTo
+largest-low f zero k h = absurd (omega arith)
+largest-low f (suc n) k h =
+    elim (ℕ-discrete k n) [ yes e ↦ rw e (omega arith) | no e ↦ omega (arith, largest-low f n k (omega arith)) ]
+
 -- past the words that were filled the old ones have stayed
 pub getD-filled-past : {A : Type 0} (f : ℕ → A) (n i : ℕ) (old : List A) (d : A) → n ≤ i → getD (filled f n old) i d ≡ getD old i d
 getD-filled-past {A} f n i old d h =

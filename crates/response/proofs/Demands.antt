@@ -221,6 +221,21 @@ result-transfer f g n verdict.Schedulable same h = λ i l. rw (sym (same i l)) (
 result-transfer f g n (verdict.Late p) same h =
     (h .0, sym (same (p .0) (h .0)) ∙ h .1, λ i l. rw (sym (same i (omega (arith, h .0)))) (h .2 i l))
 
+module _ (bytes : List ℕ) (calm : NoJitter (tasksOf bytes)) (bare : rowCount bytes ≡ 0) where
+  -- with no rows nothing blocks
+  no-blocking : (i : ℕ) → blockingOf (tableOf bytes) i ≡ 0
+  unfolding blockingOf tabulate largestOf
+  no-blocking i =
+      ap
+      (λ (m : ℕ).
+      largestOf (section (tasksOf bytes) (tabulate (rowAt bytes) m) (taskOf (tasksOf bytes) i .priority)) (tabulate (rowAt bytes) m))
+      bare
+
+  pub plain-answer : (i : ℕ) → i < taskCount bytes → answerOf (tableOf bytes) i ≡ responseOf (tasksOf bytes) i
+  unfolding answerOf
+  plain-answer i h =
+      rw (no-blocking i, add-zero (taskOf (tasksOf bytes) i .cost), calm i (omega (arith, tasks-count bytes)))
+
 module _ (bytes answers rounds : List ℕ) (v : Verdict) (answersLeft roundsLeft : List ℕ)
     (o : Outcome bytes answers rounds v answersLeft roundsLeft) (right : TableRight bytes)
     (room : RoomFor bytes (length answers) (length rounds)) where
@@ -265,25 +280,10 @@ module _ (bytes answers rounds : List ℕ) (v : Verdict) (answersLeft roundsLeft
             (result-right (answerOf (tableOf bytes)) (taskCount bytes)));
       }
 
-  module _ (calm : NoJitter (tasksOf bytes)) (bare : rowCount bytes ≡ 0) where
-    -- with no rows nothing blocks
-    no-blocking : (i : ℕ) → blockingOf (tableOf bytes) i ≡ 0
-    unfolding blockingOf tabulate largestOf
-    no-blocking i =
-        ap
-        (λ (m : ℕ).
-        largestOf (section (tasksOf bytes) (tabulate (rowAt bytes) m) (taskOf (tasksOf bytes) i .priority)) (tabulate (rowAt bytes) m))
-        bare
-
-    plain-answer : (i : ℕ) → i < taskCount bytes → answerOf (tableOf bytes) i ≡ responseOf (tasksOf bytes) i
-    unfolding answerOf
-    plain-answer i h =
-        rw (no-blocking i, add-zero (taskOf (tasksOf bytes) i .cost), calm i (omega (arith, tasks-count bytes)))
-
-    run-answers : (i : ℕ) → i < taskCount bytes → Answers (tasksOf bytes) i (wordOf answersLeft i)
-    run-answers i h =
-        rw (answer-word i h ∙ plain-answer i h)
-        (runs.demand3 (tasksOf bytes) (tasks-fit bytes (right .records)) calm i (omega (arith, tasks-count bytes)))
+  run-answers : NoJitter (tasksOf bytes) → rowCount bytes ≡ 0 → (i : ℕ) → i < taskCount bytes → Answers (tasksOf bytes) i (wordOf answersLeft i)
+  run-answers calm bare i h =
+      rw (answer-word i h ∙ plain-answer bytes calm bare i h)
+      (runs.demand3 (tasksOf bytes) (tasks-fit bytes (right .records)) calm i (omega (arith, tasks-count bytes)))
 
 pub demand2 : says.Demand2
 demand2 = written

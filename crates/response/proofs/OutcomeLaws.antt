@@ -1,24 +1,23 @@
 -- Which outcome each stage leads to.
 -- Assumes nothing.
 use Prim.Native.Nat.{ℕ, _≤_, _<_}
-use native.Mathlib.Omega.{arith}
 use mathlib.Core.Path.{_≡_, refl, sym, _∙_, ap}
-use mathlib.Core.Bool.{true, false}
-use mathlib.Core.List.{List, _++_}
+use mathlib.Core.Bool.{false}
+use mathlib.Core.List.{List}
 use lib.Dec.{leb}
-use lib.ListN.{length, drop}
-use borrow.Author.Tests.{le-leb}
+use lib.ListN.{length}
 use Rattle.model.specs.Choice.{both}
 use Rattle.model.specs.Lists.{filled}
-use Rattle.model.proofs.Lists.{tabulate-same}
+use Rattle.model.proofs.Filling.{filled-same}
 use Rattle.model.proofs.First.{first-same}
 use Rattle.tables.specs.declared.Refusal.{Refusal}
 use Rattle.tables.specs.declared.Refusal.the-variants.{NoRoom}
 use Rattle.tables.specs.declared.Check.{Check}
 use Rattle.tables.specs.declared.Check.the-variants as check
 use Rattle.tables.specs.Layout.{taskCount, tableOf}
-use Rattle.tables.specs.Refusals.{at, firstIn, orElse, unless}
-use Rattle.tables.specs.Checks.{headCheck, recordsCheck, rowsCheck, roomCheck, tableCheck}
+use Rattle.tables.specs.Refusals.{at}
+use Rattle.tables.specs.Checks.{headCheck, recordsCheck, rowsCheck, tableCheck}
+use Rattle.tables.proofs.OrderLaws.{head-decides, records-decide, rows-decide, room-decides, all-pass}
 use Rattle.response.specs.declared.Verdict.{Verdict}
 use Rattle.response.specs.declared.Verdict.the-variants as verdict
 use Rattle.response.specs.Verdicts.{isSchedulable}
@@ -34,41 +33,27 @@ module _ (bytes answers rounds : List ℕ) where
   refused r e = record { verdictIs = rw e; answersAre = rw e; roundsAre = rw e }
 
   pub head-refused : (r : Refusal) → check.Refused r ≡ headCheck bytes → Outcome bytes answers rounds (verdict.Refused r) answers rounds
-  unfolding tableCheck firstIn orElse
-  head-refused r e = refused r (rw (sym e))
+  head-refused r e = refused r (head-decides bytes (length answers) (length rounds) r e)
 
   pub records-refused : (r : Refusal) → headCheck bytes ≡ check.Clean → check.Refused r ≡ recordsCheck bytes →
       Outcome bytes answers rounds (verdict.Refused r) answers rounds
-  unfolding tableCheck firstIn orElse
-  records-refused r head e = refused r (rw (head, sym e))
+  records-refused r head e = refused r (records-decide bytes (length answers) (length rounds) head r e)
 
   module _ (head : headCheck bytes ≡ check.Clean) (records : recordsCheck bytes ≡ check.Clean) where
     pub rows-refused : (r : Refusal) → check.Refused r ≡ rowsCheck bytes → Outcome bytes answers rounds (verdict.Refused r) answers rounds
-    unfolding tableCheck firstIn orElse
-    rows-refused r e = refused r (rw (head, records, sym e))
+    rows-refused r e = refused r (rows-decide bytes (length answers) (length rounds) head records r e)
 
     module _ (rows : rowsCheck bytes ≡ check.Clean) (n : ℕ) (counted : n ≡ taskCount bytes) where
       pub no-room : both (leb n (length answers)) (leb n (length rounds)) ≡ false →
           Outcome bytes answers rounds (verdict.Refused NoRoom) answers rounds
-      unfolding tableCheck firstIn orElse unless roomCheck
-      no-room e =
-          refused NoRoom
-          (rw (head, records, rows, ap (λ (k : ℕ). both (leb k (length answers)) (leb k (length rounds))) (sym counted) ∙ e))
+      no-room e = refused NoRoom (room-decides bytes (length answers) (length rounds) head records rows n counted e)
 
       module _ (answersLong : n ≤ length answers) (roundsLong : n ≤ length rounds) where
         accepted : tableCheck bytes (length answers) (length rounds) ≡ check.Clean
-        unfolding tableCheck firstIn orElse unless roomCheck
-        accepted =
-            rw (
-              head,
-              records,
-              rows,
-              le-leb (taskCount bytes) (length answers) (omega (arith, counted)),
-              le-leb (taskCount bytes) (length rounds) (omega (arith, counted)),
-            )
+        accepted = all-pass bytes (length answers) (length rounds) head records rows n counted answersLong roundsLong
 
-        filled-same : (f g : ℕ → ℕ) (old : List ℕ) → ((i : ℕ) → i < n → f i ≡ g i) → filled f n old ≡ filled g (taskCount bytes) old
-        filled-same f g old same = ap (λ l. l ++ drop n old) (tabulate-same f g n same) ∙ ap (λ (k : ℕ). filled g k old) counted
+        filled-all : (f g : ℕ → ℕ) (old : List ℕ) → ((i : ℕ) → i < n → f i ≡ g i) → filled f n old ≡ filled g (taskCount bytes) old
+        filled-all f g old same = filled-same f g n old same ∙ ap (λ (k : ℕ). filled g k old) counted
 
         -- answers that agree with the table's, task by task, are the outcome
         pub answered : (d : Decoded) (v : Verdict) (answersLeft roundsLeft : List ℕ) →
@@ -84,6 +69,6 @@ module _ (bytes answers rounds : List ℕ) where
                   ∙ first-same isSchedulable verdict.Schedulable (λ i. lateIf (answerIn d i) (at i)) (λ i. lateIf (answerOf (tableOf bytes) i) (at i)) n
                   (λ i h. ap (λ (x : ℕ). lateIf x (at i)) (answer i h))
                   ∙ ap (resultOf (answerOf (tableOf bytes))) counted);
-              answersAre = rw accepted (a .answersAre ∙ filled-same (answerIn d) (answerOf (tableOf bytes)) answers answer);
-              roundsAre = rw accepted (a .roundsAre ∙ filled-same (roundsIn d) (roundsOf (tableOf bytes)) rounds round);
+              answersAre = rw accepted (a .answersAre ∙ filled-all (answerIn d) (answerOf (tableOf bytes)) answers answer);
+              roundsAre = rw accepted (a .roundsAre ∙ filled-all (roundsIn d) (roundsOf (tableOf bytes)) rounds round);
             }

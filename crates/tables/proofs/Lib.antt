@@ -3,3 +3,4 @@ pub mod MeaningLaws
 pub mod CheckLaws
 pub mod RecordLaws
 pub mod RowLaws
+pub mod OrderLaws

@@ -1,0 +1,286 @@
+-- One tick of the slices that hold the engine's state, and what is reported after it.
+-- Assumes nothing.
+use Prim.Native.Nat.{ℕ, zero, suc, _+_, _-_, _*_, _≤_, _<_}
+use native.Mathlib.Omega.{arith}
+use native.Mathlib.Decide.{ℕ-discrete}
+use native.Mathlib.Numerals.{add-one}
+use mathlib.Core.Path.{_≡_, refl, sym, _∙_, ap, subst}
+use mathlib.Core.List.{List}
+use mathlib.Core.Logic.{_⊎_, inl, inr}
+use lib.Dec.{eqb, ltb}
+use lib.ListN.{length, getD, set, replicate, length-replicate, getD-replicate, length-set}
+use Rattle.model.specs.Choice.{pick, both, on}
+use Rattle.model.specs.Lists.{filled, largestTo}
+use Rattle.model.proofs.Lists.{getD-filled, length-filled, largest-low, largest-high}
+use Rattle.model.proofs.Filling.{filled-set, filled-again, filled-same, filled-word, is-filled}
+use Rattle.model.proofs.Tests.{eqb?, ltb?}
+use Rattle.machine.specs.Machine.{State, started, released, served, after, nextPlace, placeServed, leftAfter, readyAfter, earliest, none, played}
+use Rattle.machine.specs.Slices.{wordAt, TasksHeld, DeadlinesHeld, StateHeld, Holds, HasNext, stateIn, releasedIn, servedIn}
+use Rattle.machine.proofs.MachineLaws.{Next, inTick, left-high, due-is, the-next, start-ready, stay-ready, after-own, after-other}
+use Rattle.machine.proofs.ReportLaws.{reported, report-none, report-late, report-all, report-on, report-other, report-quiet, report-own}
+use Rattle.machine.proofs.SameLaws.{Same, release-same, serve-same}
+use Rattle.machine.proofs.ReleaseLaws.{earliest-high, earliest-same}
+
+-- The work of a tick, once its releases are made.
+module _ (periods costs : List ℕ) (n t : ℕ) (left due : List ℕ) (ready : ℕ) (few : n ≤ 32) (leftLong : n ≤ length left)
+    (has : HasNext n (releasedIn periods costs n t left due ready)) (leftNow dueNow : List ℕ) (readyNow next place : ℕ)
+    (holds : Holds n left due (releasedIn periods costs n t left due ready) leftNow dueNow readyNow next)
+    (is : place ≡ nextPlace readyNow) where
+  abbrev state : State
+  state = releasedIn periods costs n t left due ready
+
+  place-is : place ≡ nextPlace (state .ready)
+  place-is = is ∙ ap nextPlace (holds .readyIs)
+
+  isPlace : place < n
+  isPlace = rw place-is (has .isPlace)
+
+  word-is : wordAt leftNow place ≡ state .left (nextPlace (state .ready))
+  word-is =
+      ap (λ (words : List ℕ). wordAt words place) (holds .leftIs) ∙ getD-filled (state .left) n place left 0 isPlace
+      ∙ ap (state .left) place-is
+
+  -- what `serve` asks
+  pub serve-fits : (place < 32) × (place < length leftNow) × (1 ≤ wordAt leftNow place)
+  serve-fits = (
+    omega (arith, isPlace),
+    rw (holds .leftIs, length-filled (state .left) n left leftLong) (omega (arith, isPlace)),
+    rw word-is (has .hasWork),
+  )
+
+  -- what it leaves is the state after the tick
+  pub tick-served : (leftAfterwards : List ℕ) (rest : ℕ) → leftAfterwards ≡ set leftNow place (wordAt leftNow place - 1) →
+      rest ≡ readyAfter (eqb (wordAt leftNow place) 1) place readyNow →
+      Holds n left due (servedIn periods costs n t left due ready) leftAfterwards dueNow rest next × (place ≡ nextPlace (state .ready))
+  tick-served leftAfterwards rest stored cleared = (
+    record {
+      leftIs =
+          stored
+          ∙ ap (λ (words : List ℕ). set words place (wordAt leftNow place - 1)) (holds .leftIs)
+          ∙ filled-set (state .left) (leftAfter (state .left) (nextPlace (state .ready))) n place (wordAt leftNow place - 1) left leftLong isPlace
+          (ap (λ (x : ℕ). x - 1) word-is ∙ own)
+          (λ k h other. sym (after-other (state .left) (nextPlace (state .ready)) k (λ e. other (e ∙ sym place-is))));
+      dueIs = holds .dueIs;
+      readyIs = cleared ∙ rw (word-is, place-is, holds .readyIs);
+      nextIs = holds .nextIs;
+    },
+    place-is,
+  )
+    where
+      own : state .left (nextPlace (state .ready)) - 1 ≡ leftAfter (state .left) (nextPlace (state .ready)) place
+      own = sym (after-own (state .left) (nextPlace (state .ready)) place place-is ∙ ap (λ (p : ℕ). state .left p - 1) place-is)
+
+-- The play.
+module _ (periods costs : List ℕ) (n : ℕ) where
+  abbrev engine : ℕ → State
+  engine t = after (wordAt periods) (wordAt costs) n t
+
+  abbrev raisedAt : ℕ → State
+  raisedAt t = inTick (wordAt periods) (wordAt costs) n t
+
+  -- before tick t
+  pub record Playing (t : ℕ) (left due : List ℕ) (ready next : ℕ) : Type 0 where
+    pub early : t ≤ 1000000
+    pub leftLong : length left ≡ 32
+    pub dueLong : length due ≡ 32
+    pub same : Same n (stateIn left due ready) (engine t)
+    pub nextIs : next ≡ earliest (wordAt due) n
+    pub going : ¬ (raisedAt t .ready ≡ 0)
+
+  module _ (tasks : TasksHeld periods costs n) where
+    zeros : (p : ℕ) → p < n → wordAt (replicate 32 0) p ≡ 0
+    zeros p h = getD-replicate {A = ℕ} 32 p 0 0 (omega (arith, tasks .few))
+
+    pub playing-none : Playing 0 (replicate 32 0) (replicate 32 0) 0 0
+    unfolding after earliest
+    playing-none =
+        record {
+          early = omega arith;
+          leftLong = length-replicate {A = ℕ} 32 0;
+          dueLong = length-replicate {A = ℕ} 32 0;
+          same = record { left = zeros; due = zeros; ready = refl };
+          nextIs = sym (first-due n (tasks .some) (λ p h. zeros p h));
+          going = start-ready (wordAt periods) (wordAt costs) n (tasks .few) (tasks .costLow) (tasks .some);
+        }
+      where
+        first-due : (m : ℕ) → 1 ≤ m → ((p : ℕ) → p < m → wordAt (replicate 32 0) p ≡ 0) → earliest (wordAt (replicate 32 0)) m ≡ 0
+        first-due zero h each = absurd (omega arith)
+        first-due (suc m) h each = omega (arith, each m (omega arith))
+
+    module _ (t : ℕ) (left due : List ℕ) (ready next : ℕ) (play : Playing t left due ready next) where
+      releasedSame : Same n (releasedIn periods costs n t left due ready) (raisedAt t)
+      releasedSame =
+          release-same (wordAt periods) (wordAt costs) (wordAt periods) (wordAt costs) n (λ p h. refl) (λ p h. refl) t
+          (stateIn left due ready) (engine t) (play .same)
+
+      nextOne : Next n (raisedAt t .left) (placeServed (wordAt periods) (wordAt costs) n t)
+      nextOne = the-next (wordAt periods) (wordAt costs) n (tasks .few) (tasks .costLow) t (play .going)
+
+      pub state-held : StateHeld n t left due next
+      state-held =
+          record {
+            leftLong = omega (arith, play .leftLong, tasks .few);
+            dueLong = omega (arith, play .dueLong, tasks .few);
+            leftHigh = λ p h.
+                omega (
+                  arith,
+                  play .same .left p h,
+                  left-high (wordAt periods) (wordAt costs) n (tasks .costHigh) t p h,
+                  play .early,
+                );
+            dueHigh = λ p h.
+                let d = due-is (wordAt periods) (wordAt costs) n (tasks .periodLow) t p h in
+                omega (arith, play .same .due p h, d .3, tasks .periodHigh p h, play .early);
+            nextIs = play .nextIs;
+            notPast =
+                rw (play .nextIs)
+                (earliest-high (wordAt due) n t (omega (arith, play .early))
+                (λ p h. omega (arith, play .same .due p h, due-is (wordAt periods) (wordAt costs) n (tasks .periodLow) t p h .2)));
+          }
+
+      pub has-next : HasNext n (releasedIn periods costs n t left due ready)
+      has-next =
+          record {
+            isPlace = rw (releasedSame .ready) (nextOne .isPlace);
+            hasWork =
+                rw (releasedSame .ready, releasedSame .left (placeServed (wordAt periods) (wordAt costs) n t) (nextOne .isPlace))
+                (nextOne .hasWork);
+          }
+
+      module _ (place : ℕ) (is : place ≡ nextPlace (releasedIn periods costs n t left due ready .ready)) where
+        pub place-served : place ≡ placeServed (wordAt periods) (wordAt costs) n t
+        place-served = is ∙ ap nextPlace (releasedSame .ready)
+
+        pub place-fits : place < n
+        place-fits = rw place-served (nextOne .isPlace)
+
+      module _ (leftNow dueNow : List ℕ) (rest again : ℕ)
+          (holds : Holds n left due (servedIn periods costs n t left due ready) leftNow dueNow rest again) where
+        servedSame : Same n (servedIn periods costs n t left due ready) (engine (suc t))
+        unfolding after
+        servedSame =
+            serve-same n (releasedIn periods costs n t left due ready) (raisedAt t) releasedSame
+            (λ some. has-next .isPlace)
+
+        leftNow-is : (p : ℕ) → p < n → wordAt leftNow p ≡ engine (suc t) .left p
+        leftNow-is p h =
+            ap (λ (words : List ℕ). wordAt words p) (holds .leftIs)
+            ∙ getD-filled (servedIn periods costs n t left due ready .left) n p left 0 h ∙ servedSame .left p h
+
+        dueNow-is : (p : ℕ) → p < n → wordAt dueNow p ≡ servedIn periods costs n t left due ready .due p
+        dueNow-is p h =
+            ap (λ (words : List ℕ). wordAt words p) (holds .dueIs)
+            ∙ getD-filled (servedIn periods costs n t left due ready .due) n p due 0 h
+
+        rest-is : rest ≡ engine (suc t) .ready
+        rest-is = holds .readyIs ∙ servedSame .ready
+
+        pub left-long : length leftNow ≡ 32
+        left-long =
+            ap length (holds .leftIs)
+            ∙ length-filled (servedIn periods costs n t left due ready .left) n left (state-held .leftLong) ∙ play .leftLong
+
+        pub playing-more : t < 1000000 → ¬ (rest ≡ 0) → Playing (t + 1) leftNow dueNow rest again
+        playing-more early some =
+            rw add-one (record {
+              early = early;
+              leftLong = left-long;
+              dueLong =
+                  ap length (holds .dueIs)
+                  ∙ length-filled (servedIn periods costs n t left due ready .due) n due (state-held .dueLong) ∙ play .dueLong;
+              same = record { left = leftNow-is; due = λ p h. dueNow-is p h ∙ servedSame .due p h; ready = rest-is };
+              nextIs =
+                  holds .nextIs
+                  ∙ earliest-same (servedIn periods costs n t left due ready .due) (wordAt dueNow) n (λ p h. sym (dueNow-is p h));
+              going =
+                  stay-ready (wordAt periods) (wordAt costs) n (tasks .few) (tasks .costLow) (suc t)
+                  (λ z. some (rest-is ∙ z));
+            })
+
+        -- what is reported
+        module _ (deadlines old answers : List ℕ) (due? : DeadlinesHeld periods deadlines n) (room : n ≤ length old) where
+          abbrev told : ℕ → ℕ → ℕ
+          told x = reported (wordAt periods) (wordAt costs) n (wordAt deadlines) x
+
+          module _ (place : ℕ) (is : place ≡ nextPlace (releasedIn periods costs n t left due ready .ready))
+              (are : answers ≡ filled (told t) n old) where
+            inside : place < n
+            inside = place-fits place is
+
+            abbrev write : ℕ
+            write = pick (both (eqb (wordAt leftNow place) 0) (ltb t (wordAt deadlines place))) (t + 1) (wordAt answers place)
+
+            before : wordAt answers place ≡ told t place
+            before = ap (λ (words : List ℕ). wordAt words place) are ∙ getD-filled (told t) n place old 0 inside
+
+            written : write ≡ told (suc t) place
+            written =
+                elim (eqb? (wordAt leftNow place) 0) [
+                  | inr w ↦
+                      rw (w .0)
+                      (before
+                      ∙ sym (report-on (wordAt periods) (wordAt costs) n (wordAt deadlines) t place
+                      (λ z. w .1 (leftNow-is place inside ∙ z))))
+                  | inl w ↦
+                      elim (ltb? t (wordAt deadlines place)) [
+                        | inr l ↦
+                            rw (w .0, l .0)
+                            (before ∙ sym (report-late (wordAt periods) (wordAt costs) n (wordAt deadlines) t place (l .1)))
+                        | inl l ↦
+                            rw (w .0, l .0, add-one)
+                            (sym (report-own (wordAt periods) (wordAt costs) n (wordAt deadlines) (tasks .costLow) (tasks .few)
+                            (due? .high) t place inside (play .going) (place-served place is) (sym (leftNow-is place inside) ∙ w .1) (l .1)))
+                      ]
+                ]
+
+            pub told-more : (now : List ℕ) → now ≡ set answers place write → now ≡ filled (told (t + 1)) n old
+            told-more now stored =
+                rw add-one
+                (stored
+                ∙ ap (λ (words : List ℕ). set words place write) are
+                ∙ filled-set (told t) (told (suc t)) n place write old room inside written
+                (λ k h other. sym (report-other (wordAt periods) (wordAt costs) n (wordAt deadlines) (tasks .costLow) t k h
+                (λ e. other (e ∙ sym (place-served place is))))))
+
+            -- where no task has work left, all is told
+            pub told-all : (now : List ℕ) → now ≡ set answers place write → rest ≡ 0 →
+                now ≡ filled (played (wordAt periods) (wordAt costs) n (wordAt deadlines)) n old
+            told-all now stored quiet =
+                rw add-one at (told-more now stored)
+                ∙ filled-same (told (suc t)) (played (wordAt periods) (wordAt costs) n (wordAt deadlines)) n old
+                (λ k h. report-quiet (wordAt periods) (wordAt costs) n (wordAt deadlines) (tasks .costLow) (tasks .few) (suc t) k h
+                (omega arith) (sym rest-is ∙ quiet))
+
+    -- where the latest deadline is past, too
+    pub told-late : (t : ℕ) (deadlines old answers : List ℕ) → answers ≡ filled (reported (wordAt periods) (wordAt costs) n (wordAt deadlines) t) n old →
+        largestTo (wordAt deadlines) n ≤ t → answers ≡ filled (played (wordAt periods) (wordAt costs) n (wordAt deadlines)) n old
+    told-late t deadlines old answers are past =
+        are
+        ∙ filled-same (reported (wordAt periods) (wordAt costs) n (wordAt deadlines) t) (played (wordAt periods) (wordAt costs) n (wordAt deadlines)) n old
+        (λ k h. report-all (wordAt periods) (wordAt costs) n (wordAt deadlines) t k (omega (arith, largest-low (wordAt deadlines) n k h)))
+
+    -- before the first tick, in words that were set to 0
+    pub told-none : (deadlines entry cleared : List ℕ) → n ≤ length entry → cleared ≡ filled none n entry →
+        cleared ≡ filled (reported (wordAt periods) (wordAt costs) n (wordAt deadlines) 0) n cleared
+    told-none deadlines entry cleared room are =
+        is-filled (reported (wordAt periods) (wordAt costs) n (wordAt deadlines) 0) n cleared cleared
+        (rw (are, length-filled none n entry room) room) refl
+        (λ k h.
+        filled-word none n entry cleared are k h
+        ∙ sym (report-none (wordAt periods) (wordAt costs) n (wordAt deadlines) k))
+        (λ k h. refl)
+
+    -- they are written over, all of them
+    pub told-over : (f : ℕ → ℕ) (entry cleared answers : List ℕ) → n ≤ length entry → cleared ≡ filled none n entry →
+        answers ≡ filled f n cleared → answers ≡ filled f n entry
+    told-over f entry cleared answers room over are =
+        are ∙ ap (filled f n) over ∙ filled-again none f n entry room
+
+    -- and the slice keeps its length
+    pub told-long : (f : ℕ → ℕ) (cleared answers : List ℕ) → n ≤ length cleared → answers ≡ filled f n cleared → length answers ≡ length cleared
+    told-long f cleared answers room are = ap length are ∙ length-filled f n cleared room
+
+    -- no deadline is past 1,000,000
+    pub limit-high : (deadlines : List ℕ) → DeadlinesHeld periods deadlines n → largestTo (wordAt deadlines) n ≤ 1000000
+    limit-high deadlines held =
+        largest-high (wordAt deadlines) n 1000000 (λ k h. omega (arith, held .high k h, tasks .periodHigh k h))

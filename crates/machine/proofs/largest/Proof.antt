@@ -1,0 +1,55 @@
+-- `machine::largest` meets its contract: each turn looks at one word.
+-- Assumes nothing.
+use Prim.Native.Nat.{_-_, _≤_}
+use native.Mathlib.Omega.{arith}
+use mathlib.Core.Path.{_≡_, sym, _∙_, ap}
+use Rattle.model.specs.Lists.{largestTo}
+use Rattle.machine.specs.Slices.{wordAt}
+use Rattle.machine.proofs.StepLaws.{largest-first, largest-next, largest-all}
+use Rattle.machine.proofs.largest.Statement.{statement}
+use Rattle.machine.proofs.largest.Tie as tie
+
+abbrev Inv-loop : tie.InvT-loop
+Inv-loop words n found₀ i₀ found i = (found ≡ largestTo (wordAt words) i) × (i ≤ n)
+
+abbrev μ-loop : tie.MeasureT-loop
+μ-loop words n found₀ i₀ found i = n - i
+
+loop-holds : tie.Need-loop-holds Inv-loop μ-loop
+loop-holds c = (largest-first _, omega arith)
+
+mul-larger : tie.Need-mul-larger Inv-loop μ-loop
+mul-larger c = omega arith
+
+shared-slice-read-larger : tie.Need-shared-slice-read-larger Inv-loop μ-loop
+shared-slice-read-larger c = omega (arith, c .before .before .before .before .pre, c .before .loop-test .taken)
+
+larger-requires : tie.Need-larger-requires Inv-loop μ-loop
+larger-requires c κs = omega arith
+
+add-i : tie.Need-add-i Inv-loop μ-loop
+add-i c = omega arith
+
+loop-less : tie.Need-loop-less Inv-loop μ-loop
+loop-less c = omega arith
+
+loop-again : tie.Need-loop-again Inv-loop μ-loop
+loop-again c = (largest-next _ _ _ _ (c .before .before .before .loop .inv .0) (c .larger .ensures), omega (arith, c .before .before .loop-test .taken))
+
+returns : tie.Need-returns Inv-loop μ-loop
+returns c = largest-all _ _ _ _ (c .before .loop .inv .0) (c .before .loop .inv .1) (c .loop-test .left)
+
+pub largest-spec : {M : Type 1} → statement M
+largest-spec =
+    tie.close
+    (tie.spec
+    Inv-loop
+    μ-loop
+    loop-holds
+    mul-larger
+    shared-slice-read-larger
+    larger-requires
+    add-i
+    loop-less
+    loop-again
+    returns)

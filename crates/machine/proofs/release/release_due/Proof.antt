@@ -1,0 +1,109 @@
+-- `machine::release::release_due` meets its contract: each turn releases one task, by the laws of `ReleaseLaws`.
+-- Assumes nothing.
+use Prim.Native.Nat.{_-_}
+use native.Mathlib.Omega.{arith}
+use mathlib.Core.Path.{_≡_}
+use Rattle.model.proofs.Filling.{Filling, filling-none, filling-old}
+use Rattle.machine.specs.Machine.{leftWith, dueWith}
+use Rattle.machine.specs.Slices.{wordAt}
+use Rattle.machine.proofs.ReleaseLaws.{Releasing, releasing-none, releasing-more, left-more, due-more, all-released}
+use Rattle.machine.proofs.release.release_due.Statement.{statement}
+use Rattle.machine.proofs.release.release_due.Tie as tie
+
+abbrev Inv-loop : tie.InvT-loop
+Inv-loop periods costs n at left₀ due₀ ready word₀ earliest₀ p₀ left due word earliest p =
+    Releasing periods costs n (at .0) left₀ due₀ ready p word earliest
+    × Filling (leftWith (wordAt costs) (wordAt due₀) (at .0) (wordAt left₀)) n p left₀ left
+    × Filling (dueWith (wordAt periods) (wordAt due₀) (at .0)) n p due₀ due
+
+abbrev μ-loop : tie.MeasureT-loop
+μ-loop periods costs n at left₀ due₀ ready word₀ earliest₀ p₀ left due word earliest p = n - p
+
+loop-holds : tie.Need-loop-holds Inv-loop μ-loop
+loop-holds c = (releasing-none _ _ _ _ _ _ _, filling-none _ _ _ (c .before .before .before .before .pre .1 .leftLong), filling-none _ _ _ (c .before .before .before .before .pre .1 .dueLong))
+
+mul-smaller : tie.Need-mul-smaller Inv-loop μ-loop
+mul-smaller c = omega arith
+
+shared-slice-read-smaller : tie.Need-shared-slice-read-smaller Inv-loop μ-loop
+shared-slice-read-smaller c = omega (arith, c .before .before .before .before .before .before .before .pre .0 .periodsLong, c .before .loop-test .taken)
+
+mul-t17 : tie.Need-mul-t17 Inv-loop μ-loop
+mul-t17 c = omega arith
+
+shared-slice-read-t19 : tie.Need-shared-slice-read-t19 Inv-loop μ-loop
+shared-slice-read-t19 c = omega (arith, c .before .before .before .before .before .before .before .before .pre .0 .costsLong, c .before .before .loop-test .taken)
+
+release-one-requires : tie.Need-release-one-requires Inv-loop μ-loop
+release-one-requires c κs =
+    let h = c .before .before .before .before .loop-test .taken in
+    let tasks = c .before .before .before .before .before .before .before .before .before .before .pre .0 in
+    let state = c .before .before .before .before .before .before .before .before .before .before .pre .1 in
+    let lefts = c .before .before .before .before .before .loop .inv .1 in
+    let dues = c .before .before .before .before .before .loop .inv .2 in (
+      (omega (arith, tasks .few), omega (arith, lefts .long, lefts .room), omega (arith, dues .long, dues .room)),
+      (
+        tasks .periodHigh _ h,
+        tasks .costHigh _ h,
+        omega (arith, filling-old _ _ _ _ _ lefts (c .before .before .before .before .before .loop .p) (omega arith), state .leftHigh (c .before .before .before .before .before .loop .p) h),
+        omega (arith, filling-old _ _ _ _ _ dues (c .before .before .before .before .before .loop .p) (omega arith), state .dueHigh (c .before .before .before .before .before .loop .p) h),
+      ),
+    )
+
+mul-smaller-2 : tie.Need-mul-smaller-2 Inv-loop μ-loop
+mul-smaller-2 c = omega arith
+
+slice-read-smaller : tie.Need-slice-read-smaller Inv-loop μ-loop
+slice-read-smaller c = omega (arith, c .before .before .before .before .before .release-one .kept, c .before .before .before .before .before .before .before .before .before .before .before .loop .inv .2 .long, c .before .before .before .before .before .before .before .before .before .before .before .loop .inv .2 .room, c .before .before .before .before .before .before .before .before .before .before .loop-test .taken)
+
+smaller-requires : tie.Need-smaller-requires Inv-loop μ-loop
+smaller-requires c κs = omega arith
+
+add-p : tie.Need-add-p Inv-loop μ-loop
+add-p c = omega arith
+
+loop-less : tie.Need-loop-less Inv-loop μ-loop
+loop-less c = omega arith
+
+loop-again : tie.Need-loop-again Inv-loop μ-loop
+loop-again c =
+    let h = c .before .before .before .before .before .before .before .before .before .before .before .loop-test .taken in
+    let lefts = c .before .before .before .before .before .before .before .before .before .before .before .before .loop .inv .1 in
+    let dues = c .before .before .before .before .before .before .before .before .before .before .before .before .loop .inv .2 in
+    let said = c .before .before .before .before .before .before .release-one .ensures in
+    let a = c .before .before .before .before .before .before .before .before .before .before .before .before .before .before .before .before .before .args in (
+      releasing-more (a .periods .now) (a .costs .now) (a .n) (a .at .0) (a .left .now) (a .due .now) (a .ready) (c .before .before .before .before .before .before .before .before .before .before .before .before .loop .p) h _ _ lefts dues _ _ _ _ _ (c .before .before .before .before .before .before .before .before .before .before .before .before .loop .inv .0) (said .1 .0) (said .1 .1) (c .smaller .ensures),
+      left-more (a .periods .now) (a .costs .now) (a .n) (a .at .0) (a .left .now) (a .due .now) (a .ready) (c .before .before .before .before .before .before .before .before .before .before .before .before .loop .p) h _ _ lefts dues _ (said .0),
+      due-more (a .periods .now) (a .costs .now) (a .n) (a .at .0) (a .left .now) (a .due .now) (a .ready) (c .before .before .before .before .before .before .before .before .before .before .before .before .loop .p) h _ _ lefts dues _ (said .1 .0),
+    )
+
+same-length : tie.Need-same-length Inv-loop μ-loop
+same-length c = c .before .loop .inv .1 .long
+
+same-length-2 : tie.Need-same-length-2 Inv-loop μ-loop
+same-length-2 c = c .before .loop .inv .2 .long
+
+returns : tie.Need-returns Inv-loop μ-loop
+returns c = all-released _ _ _ _ _ _ _ _ _ _ _ _ (c .before .loop .inv .0) (c .before .loop .inv .1) (c .before .loop .inv .2) (c .loop-test .left)
+
+pub release-due-spec : {M : Type 1} → statement M
+release-due-spec =
+    tie.close
+    (tie.spec
+    Inv-loop
+    μ-loop
+    loop-holds
+    mul-smaller
+    shared-slice-read-smaller
+    mul-t17
+    shared-slice-read-t19
+    release-one-requires
+    mul-smaller-2
+    slice-read-smaller
+    smaller-requires
+    add-p
+    loop-less
+    loop-again
+    same-length
+    same-length-2
+    returns)

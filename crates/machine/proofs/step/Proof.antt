@@ -1,0 +1,41 @@
+-- `machine::step` meets its contract: the releases, then the work of one tick.
+-- Assumes nothing.
+use borrow.Author.Needs.{needs}
+use Rattle.machine.proofs.PlayLaws.{serve-fits, tick-served}
+use Rattle.machine.proofs.step.Statement.{statement}
+use Rattle.machine.proofs.step.Tie as tie
+
+release-requires : tie.Need-release-requires
+release-requires c κs = search needs
+
+next-place-requires : tie.Need-next-place-requires
+next-place-requires c κs = search needs
+
+serve-requires : tie.Need-serve-requires
+serve-requires c κs =
+    let a = c .before .before .before .before .before .before .before .before .before .before .before .before .before .args in
+    let p = c .before .before .before .before .before .before .before .before .before .before .before .before .before .pre in
+    serve-fits (a .periods .now) (a .costs .now) (a .n) (a .at .0) (a .left .now) (a .due .now) (a .ready) (p .0 .few) (p .1 .0 .leftLong) (p .1 .1) _ _ _ _ _ (c .before .before .before .before .before .before .release .ensures) (c .before .next-place .ensures)
+
+same-length : tie.Need-same-length
+same-length c = search needs
+
+same-length-2 : tie.Need-same-length-2
+same-length-2 c = search needs
+
+returns : tie.Need-returns
+returns c =
+    let a = c .before .before .before .before .before .before .before .before .before .before .before .before .before .before .before .before .before .args in
+    let p = c .before .before .before .before .before .before .before .before .before .before .before .before .before .before .before .before .before .pre in
+    tick-served (a .periods .now) (a .costs .now) (a .n) (a .at .0) (a .left .now) (a .due .now) (a .ready) (p .0 .few) (p .1 .0 .leftLong) (p .1 .1) _ _ _ _ _ (c .before .before .before .before .before .before .before .before .before .before .release .ensures) (c .before .before .before .before .before .next-place .ensures) _ _ (c .before .before .before .serve .ensures .0) (c .before .before .before .serve .ensures .1)
+
+pub step-spec : {M : Type 1} → statement M
+step-spec =
+    tie.close
+    (tie.spec
+    release-requires
+    next-place-requires
+    serve-requires
+    same-length
+    same-length-2
+    returns)

@@ -1,0 +1,104 @@
+-- The engine that plays a table (document 02, L1), over numbers alone: what it holds after so many ticks, and what a tick does.
+-- Assumes nothing.
+use Prim.Native.Nat.{ℕ, zero, suc, _+_, _-_, _/_, _%_, _^_, min}
+use mathlib.Core.Bool.{Bool}
+use lib.Bits.{bitOr, bitAnd}
+use lib.Count.{trailingZeros}
+use lib.Dec.{eqb}
+use Rattle.model.specs.Choice.{pick, on}
+use Rattle.model.specs.Search.{firstFrom}
+
+-- what the engine holds: the work left and the tick of the next release of the task at each place, and the ready word
+pub record State : Type 0 where
+  pub left : ℕ → ℕ
+  pub due : ℕ → ℕ
+  pub ready : ℕ
+
+-- before tick 0 no work is left, and every task is due at 0
+abbrev pub started : State
+started = record { left = λ p. 0; due = λ p. 0; ready = 0 }
+
+-- "A 32-bit ready word holds one bit for each task"
+abbrev pub bitOf : ℕ → ℕ → ℕ
+bitOf word p = word / 2 ^ p % 2
+
+-- the word in which the bit of place p alone is set
+abbrev pub mask : ℕ → ℕ
+mask p = 2 ^ p
+
+-- is the task at place p released in tick t?
+abbrev pub isDue : (ℕ → ℕ) → ℕ → ℕ → Bool
+isDue due t p = eqb (due p) t
+
+-- "releases all tasks at tick 0 and then every T, runs each at full cost": a release adds the cost to what is left
+abbrev pub leftWith : (cost due : ℕ → ℕ) (t : ℕ) (left : ℕ → ℕ) → ℕ → ℕ
+leftWith cost due t left p = left p + on (isDue due t p) (cost p)
+
+-- the next one comes a period later
+abbrev pub dueWith : (period due : ℕ → ℕ) (t : ℕ) → ℕ → ℕ
+dueWith period due t p = due p + on (isDue due t p) (period p)
+
+-- a task that is released has its bit set
+abbrev pub raisedBy : (isReleased : Bool) (place ready : ℕ) → ℕ
+raisedBy isReleased place ready = pick isReleased (bitOr ready (mask place)) ready
+
+-- and so for all tasks before place n
+unfoldable pub raised : (due : ℕ → ℕ) (t ready n : ℕ) → ℕ
+raised due t ready zero = ready
+raised due t ready (suc p) = raisedBy (isDue due t p) p (raised due t ready p)
+
+abbrev pub released : (period cost : ℕ → ℕ) (n t : ℕ) → State → State
+released period cost n t state =
+    record {
+      left = leftWith cost (state .due) t (state .left);
+      due = dueWith period (state .due) t;
+      ready = raised (state .due) t (state .ready) n;
+    }
+
+-- "the next task is found from that word's trailing zeros": 32, which is no task's place, where no bit is set
+abbrev pub nextPlace : ℕ → ℕ
+nextPlace ready = trailingZeros 32 ready
+
+-- a tick takes one off what is left at the place that it serves
+abbrev pub leftAfter : (left : ℕ → ℕ) (place : ℕ) → ℕ → ℕ
+leftAfter left place p = left p - on (eqb p place) 1
+
+-- and clears the place's bit where that was the last
+abbrev pub readyAfter : (last : Bool) (place ready : ℕ) → ℕ
+readyAfter last place ready = pick last (bitAnd ready (4294967295 - mask place)) ready
+
+abbrev pub served : State → State
+served state =
+    record {
+      left = leftAfter (state .left) (nextPlace (state .ready));
+      due = state .due;
+      ready = readyAfter (eqb (state .left (nextPlace (state .ready))) 1) (nextPlace (state .ready)) (state .ready);
+    }
+
+-- what the engine holds after the ticks before t, for n tasks
+unfoldable pub after : (period cost : ℕ → ℕ) (n t : ℕ) → State
+after period cost n zero = started
+after period cost n (suc t) = served (released period cost n t (after period cost n t))
+
+-- the place that is served in tick t
+abbrev pub placeServed : (period cost : ℕ → ℕ) (n t : ℕ) → ℕ
+placeServed period cost n t = nextPlace (released period cost n t (after period cost n t) .ready)
+
+-- is no work left at place i after x ticks?
+abbrev pub isDone : (period cost : ℕ → ℕ) (n i x : ℕ) → Bool
+isDone period cost n i x = eqb (after period cost n x .left i) 0
+
+-- "tick by tick up to the deadline of the task asked about, and reports when its first job is done": the number of ticks until no
+-- work is left at its place, and 0 where some is left at every one up to the deadline. (The deadline is within the period, so up to
+-- it there is no work but the first job's.)
+unfoldable pub played : (period cost : ℕ → ℕ) (n : ℕ) (deadline : ℕ → ℕ) → ℕ → ℕ
+played period cost n deadline i = firstFrom (isDone period cost n i) 1 (deadline i)
+
+-- an answer that is not known yet
+abbrev pub none : ℕ → ℕ
+none i = 0
+
+-- the earliest of the first n ticks that f names (4,294,967,295 where n is 0)
+unfoldable pub earliest : (ℕ → ℕ) → ℕ → ℕ
+earliest f zero = 4294967295
+earliest f (suc n) = min (earliest f n) (f n)

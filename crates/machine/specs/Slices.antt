@@ -1,0 +1,60 @@
+-- What the engine's slices hold, within which limits, and what a tick leaves in them.
+-- Assumes nothing.
+use Prim.Native.Nat.{ℕ, _+_, _≤_, _<_}
+use mathlib.Core.Path.{_≡_}
+use mathlib.Core.List.{List}
+use lib.ListN.{length, getD}
+use Rattle.model.specs.Lists.{filled}
+use Rattle.machine.specs.Machine.{State, released, served, nextPlace, earliest}
+
+-- the word at a place
+abbrev pub wordAt : List ℕ → ℕ → ℕ
+wordAt words p = getD words p 0
+
+-- n tasks stand in the slices, within document 01's limits: "T and C are 1 to 1,000,000. D is 1 to T."
+pub record TasksHeld (periods costs : List ℕ) (n : ℕ) : Type 0 where
+  pub some : 1 ≤ n
+  pub few : n ≤ 32
+  pub periodsLong : n ≤ length periods
+  pub costsLong : n ≤ length costs
+  pub periodLow : (p : ℕ) → p < n → 1 ≤ wordAt periods p
+  pub periodHigh : (p : ℕ) → p < n → wordAt periods p ≤ 1000000
+  pub costLow : (p : ℕ) → p < n → 1 ≤ wordAt costs p
+  pub costHigh : (p : ℕ) → p < n → wordAt costs p ≤ 1000000
+
+pub record DeadlinesHeld (periods deadlines : List ℕ) (n : ℕ) : Type 0 where
+  pub long : n ≤ length deadlines
+  pub high : (p : ℕ) → p < n → wordAt deadlines p ≤ wordAt periods p
+
+-- the state that two slices and a word hold
+abbrev pub stateIn : (left due : List ℕ) (ready : ℕ) → State
+stateIn left due ready = record { left = wordAt left; due = wordAt due; ready = ready }
+
+-- with the releases of tick t, and after the tick
+abbrev pub releasedIn : (periods costs : List ℕ) (n t : ℕ) (left due : List ℕ) (ready : ℕ) → State
+releasedIn periods costs n t left due ready = released (wordAt periods) (wordAt costs) n t (stateIn left due ready)
+
+abbrev pub servedIn : (periods costs : List ℕ) (n t : ℕ) (left due : List ℕ) (ready : ℕ) → State
+servedIn periods costs n t left due ready = served (releasedIn periods costs n t left due ready)
+
+-- a state of n tasks stands in the slices, no number of it is too large to be added to, nothing is due before tick t, and `next` is
+-- the earliest tick at which something is due
+pub record StateHeld (n t : ℕ) (left due : List ℕ) (next : ℕ) : Type 0 where
+  pub leftLong : n ≤ length left
+  pub dueLong : n ≤ length due
+  pub leftHigh : (p : ℕ) → p < n → wordAt left p ≤ 1000000000000
+  pub dueHigh : (p : ℕ) → p < n → wordAt due p ≤ 2000000
+  pub nextIs : next ≡ earliest (wordAt due) n
+  pub notPast : t ≤ next
+
+-- the slices hold a state in place of another
+pub record Holds (n : ℕ) (left due : List ℕ) (state : State) (leftNow dueNow : List ℕ) (ready next : ℕ) : Type 0 where
+  pub leftIs : leftNow ≡ filled (state .left) n left
+  pub dueIs : dueNow ≡ filled (state .due) n due
+  pub readyIs : ready ≡ state .ready
+  pub nextIs : next ≡ earliest (state .due) n
+
+-- the tick has a place to serve: one of the n tasks, with work
+pub record HasNext (n : ℕ) (state : State) : Type 0 where
+  pub isPlace : nextPlace (state .ready) < n
+  pub hasWork : 1 ≤ state .left (nextPlace (state .ready))

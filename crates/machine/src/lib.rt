@@ -1,0 +1,154 @@
+// The engine of document 02, L1, over numbers alone: it plays tick after tick, and knows no bytes and no tables.
+ghost use mathlib.Core.Path.{_≡_};
+ghost use Prim.Native.Nat.{_+_, _-_, _≤_, _<_, max};
+ghost use lib.Dec.{eqb, ltb};
+ghost use lib.ListN.{length, set};
+ghost use Rattle.model.specs.Choice.{pick, both, on};
+ghost use Rattle.model.specs.Lists.{filled, largestTo};
+ghost use Rattle.machine.specs.Machine as spec;
+ghost use Rattle.machine.specs.Slices.{wordAt, TasksHeld, DeadlinesHeld, StateHeld, Holds, HasNext, releasedIn, servedIn};
+use model::Place;
+use model::Ticks;
+
+mod release;
+
+use release::release;
+
+// The place served in a tick, and what the engine goes on with: the ready word, and the earliest tick at which a task is due.
+pub struct Tick {
+    pub place: Place,
+    pub ready: u32,
+    pub next: Ticks,
+}
+
+// The most urgent ready task: places stand in the order of urgency, the first at the lowest bit.
+fn next_place(ready: u32) -> Place
+    ensures { λ r. ⌜ r .0 ≡ spec.nextPlace ready ⌝ }
+{
+    Place(u32::trailing_zeros(ready) as usize)
+}
+
+// Takes one tick off the work left at a place, and its bit off the ready word where that was the last.
+fn serve(left: &mut [u64], place: Place, ready: u32) -> u32
+    requires { ⌜ (place .0 < 32) × (place .0 < length (now left)) × (1 ≤ wordAt (now left) (place .0)) ⌝ }
+    ensures { λ r. ⌜ now (left .exit) ≡ set (now (left .entry)) (place .0) (wordAt (now (left .entry)) (place .0) - 1) ⌝ }
+    ensures { λ r. ⌜ r ≡ spec.readyAfter (eqb (wordAt (now (left .entry)) (place .0)) 1) (place .0) ready ⌝ }
+{
+    let at = place.0;
+    let rest = left[at] - 1;
+    left[at] = rest;
+    if rest == 0 {
+        return ready & !release::mask(place);
+    }
+    ready
+}
+
+// One tick: releases what is due, then serves the most urgent ready task.
+pub fn step(
+    periods: &[u32],
+    costs: &[u32],
+    n: usize,
+    at: Ticks,
+    left: &mut [u64],
+    due: &mut [u32],
+    ready: u32,
+    next: Ticks,
+) -> Tick
+    requires { ⌜ TasksHeld (now periods) (now costs) n ⌝ }
+    requires { ⌜ StateHeld n (at .0) (now left) (now due) (next .0) ⌝ }
+    requires { ⌜ HasNext n (releasedIn (now periods) (now costs) n (at .0) (now left) (now due) ready) ⌝ }
+    ensures { λ r. ⌜ Holds n (now (left .entry)) (now (due .entry)) (servedIn (now (periods .entry)) (now (costs .entry)) n (at .0) (now (left .entry)) (now (due .entry)) ready) (now (left .exit)) (now (due .exit)) (r .ready) (r .next .0) ⌝ }
+    ensures { λ r. ⌜ r .place .0 ≡ spec.nextPlace (releasedIn (now (periods .entry)) (now (costs .entry)) n (at .0) (now (left .entry)) (now (due .entry)) ready .ready) ⌝ }
+{
+    let released = release(periods, costs, n, at, left, due, ready, next);
+    let place = next_place(released.ready);
+    let rest = serve(left, place, released.ready);
+    let again = released.next;
+    Tick {
+        place,
+        ready: rest,
+        next: again,
+    }
+}
+
+// Writes that the first job of a place is done after tick `at`, where no work is left and the deadline is not past. Up to the
+// deadline, which is within the period, there is no work but the first job's.
+fn report(rest: u64, deadline: Ticks, at: Ticks, place: Place, answers: &mut [u32])
+    requires { ⌜ (place .0 < length (now answers)) × (at .0 < 1000000) ⌝ }
+    ensures { λ r. ⌜ now (answers .exit) ≡ set (now (answers .entry)) (place .0) (pick (both (eqb rest 0) (ltb (at .0) (deadline .0))) (at .0 + 1) (wordAt (now (answers .entry)) (place .0))) ⌝ }
+{
+    if rest != 0 {
+        return;
+    }
+    if deadline.0 <= at.0 {
+        return;
+    }
+    let i = place.0;
+    answers[i] = at.0 + 1;
+}
+
+// Sets the first n words to 0: no job is done yet.
+fn clear(n: usize, answers: &mut [u32])
+    requires { ⌜ n ≤ length (now answers) ⌝ }
+    ensures { λ r. ⌜ now (answers .exit) ≡ filled spec.none n (now (answers .entry)) ⌝ }
+{
+    for i in 0..n {
+        answers[i] = 0;
+    }
+}
+
+fn larger(a: u32, b: u32) -> u32
+    ensures { λ r. ⌜ r ≡ max a b ⌝ }
+{
+    if a < b { b } else { a }
+}
+
+// The largest of n counts of ticks.
+pub fn largest(words: &[u32], n: usize) -> Ticks
+    requires { ⌜ n ≤ length (now words) ⌝ }
+    ensures { λ r. ⌜ r .0 ≡ largestTo (wordAt (now (words .entry))) n ⌝ }
+{
+    let mut found: u32 = 0;
+    for i in 0..n {
+        found = larger(found, words[i]);
+    }
+    Ticks(found)
+}
+
+// Plays all n tasks at once, from tick 0 up to the latest deadline, and writes when the first job of each is done. Where no task has
+// work left, every first job is done, and no later tick can change an answer.
+pub fn play_all(periods: &[u32], costs: &[u32], deadlines: &[u32], n: usize, answers: &mut [u32])
+    requires { ⌜ TasksHeld (now periods) (now costs) n ⌝ }
+    requires { ⌜ DeadlinesHeld (now periods) (now deadlines) n ⌝ }
+    requires { ⌜ n ≤ length (now answers) ⌝ }
+    ensures { λ r. ⌜ now (answers .exit) ≡ filled (spec.played (wordAt (now (periods .entry))) (wordAt (now (costs .entry))) n (wordAt (now (deadlines .entry)))) n (now (answers .entry)) ⌝ }
+{
+    clear(n, answers);
+    let limit = largest(deadlines, n);
+    let mut left = [0u64; 32];
+    let mut due = [0u32; 32];
+    let mut ready: u32 = 0;
+    let mut next: u32 = 0;
+    let mut at: u32 = 0;
+    while at < limit.0 {
+        let tick = step(
+            periods,
+            costs,
+            n,
+            Ticks(at),
+            &mut left,
+            &mut due,
+            ready,
+            Ticks(next),
+        );
+        let place = tick.place;
+        let p = place.0;
+        report(left[p], Ticks(deadlines[p]), Ticks(at), place, answers);
+        if tick.ready == 0 {
+            return;
+        }
+        ready = tick.ready;
+        next = tick.next.0;
+        at += 1;
+    }
+}
