@@ -118,6 +118,12 @@ largest-low f zero k h = absurd (omega arith)
 largest-low f (suc n) k h =
     elim (ℕ-discrete k n) [ yes e ↦ rw e (omega arith) | no e ↦ omega (arith, largest-low f n k (omega arith)) ]
 
+-- two functions that agree below n have the same largest
+pub largest-same : (f g : ℕ → ℕ) (n : ℕ) → ((k : ℕ) → k < n → f k ≡ g k) → largestTo f n ≡ largestTo g n
+unfolding largestTo
+largest-same f g zero h = refl
+largest-same f g (suc n) h = omega (arith, largest-same f g n (λ k l. h k (omega arith)), h n (omega arith))
+
 -- past the words that were filled the old ones have stayed
 pub getD-filled-past : {A : Type 0} (f : ℕ → A) (n i : ℕ) (old : List A) (d : A) → n ≤ i → getD (filled f n old) i d ≡ getD old i d
 getD-filled-past {A} f n i old d h =

@@ -44,7 +44,7 @@ use Rattle.response.proofs.PlaceLaws.{schedulable-only}
 use Rattle.response.proofs.TableLaws.{task-is, tasks-count, tasks-fit}
 
 -- which verdict a check leads to
-refused-by : (c : Check) (result : Verdict) (r : Refusal) → isSchedulable result ≡ true ⊎ ((i : _) × (result ≡ verdict.Late i)) →
+pub refused-by : (c : Check) (result : Verdict) (r : Refusal) → isSchedulable result ≡ true ⊎ ((i : _) × (result ≡ verdict.Late i)) →
     verdict.Refused r ≡ verdictFor c result → c ≡ check.Refused r
 refused-by check.Clean result r (inl s) e =
     absurd (clash (isSchedulable result) s (ap isSchedulable (sym e)))
@@ -53,7 +53,7 @@ refused-by check.Clean result r (inr late) e =
 refused-by (check.Refused s) result r t e = cc
 
 -- a result is schedulable, or late at a place
-result-cases : (answers : ℕ → ℕ) (n : ℕ) → (isSchedulable (resultOf answers n) ≡ true) ⊎ ((i : _) × (resultOf answers n ≡ verdict.Late i))
+pub result-cases : (answers : ℕ → ℕ) (n : ℕ) → (isSchedulable (resultOf answers n) ≡ true) ⊎ ((i : _) × (resultOf answers n ≡ verdict.Late i))
 result-cases answers n =
     elim (bool? (isSchedulable (resultOf answers n))) [
       | inl p ↦ inl p
@@ -77,7 +77,7 @@ module _ (bytes answers rounds : List ℕ) where
       refused-by (tableCheck bytes (length answers) (length rounds)) (resultOf (answerOf (tableOf bytes)) (taskCount bytes)) r
       (result-cases (answerOf (tableOf bytes)) (taskCount bytes)) e
 
-  answers-kept : (r : Refusal) → tableCheck bytes (length answers) (length rounds) ≡ check.Refused r → answersAfter bytes answers rounds ≡ answers
+  pub answers-kept : (r : Refusal) → tableCheck bytes (length answers) (length rounds) ≡ check.Refused r → answersAfter bytes answers rounds ≡ answers
   unfolding answersAfter
   answers-kept r e = rw e
 
@@ -86,7 +86,7 @@ module _ (bytes answers rounds : List ℕ) where
   rounds-kept r e = rw e
 
   -- a deserved refusal is the verdict
-  verdict-given : (r : Refusal) → tableCheck bytes (length answers) (length rounds) ≡ check.Refused r →
+  pub verdict-given : (r : Refusal) → tableCheck bytes (length answers) (length rounds) ≡ check.Refused r →
       verdictOf bytes (length answers) (length rounds) ≡ verdict.Refused r
   unfolding verdictOf
   verdict-given r e = rw e
@@ -242,7 +242,7 @@ module _ (bytes answers rounds : List ℕ) (v : Verdict) (answersLeft roundsLeft
   clean : tableCheck bytes (length answers) (length rounds) ≡ check.Clean
   clean = table-clean bytes (length answers) (length rounds) right room
 
-  answers-filled : answersLeft ≡ filled (answerOf (tableOf bytes)) (taskCount bytes) answers
+  pub answers-filled : answersLeft ≡ filled (answerOf (tableOf bytes)) (taskCount bytes) answers
   unfolding answersAfter
   answers-filled = o .answersAre ∙ rw clean
 
@@ -259,7 +259,7 @@ module _ (bytes answers rounds : List ℕ) (v : Verdict) (answersLeft roundsLeft
   cost-low : (i : ℕ) → i < taskCount bytes → 1 ≤ taskOf (tasksOf bytes) i .cost
   cost-low i h = tasks-fit bytes (right .records) .costLow i (omega (arith, tasks-count bytes))
 
-  result-is : v ≡ resultOf (answerOf (tableOf bytes)) (taskCount bytes)
+  pub result-is : v ≡ resultOf (answerOf (tableOf bytes)) (taskCount bytes)
   unfolding verdictOf
   result-is = o .verdictIs ∙ rw clean
 

@@ -1,0 +1,215 @@
+-- What is claimed of the engine for the bytes of any table: its refusals, its ticks, and the equation's answers.
+-- Assumes nothing.
+use Prim.Native.Nat.{ℕ, _≤_, _<_}
+use native.Mathlib.Omega.{arith}
+use mathlib.Core.Path.{_≡_, refl, sym, _∙_, ap}
+use mathlib.Core.Bool.{true, false}
+use mathlib.Core.Logic.{inl, inr}
+use mathlib.Core.List.{List}
+use lib.Dec.{eqb, leb}
+use lib.ListN.{length}
+use borrow.Author.Tests.{eqb-true, eq-eqb, le-leb}
+use Rattle.model.specs.Lists.{largestTo}
+use Rattle.model.specs.Tables.{Task}
+use Rattle.model.proofs.Tests.{bool?, clash, both-true, both-pass}
+use Rattle.model.proofs.Lists.{largest-low, largest-high}
+use Rattle.model.proofs.Filling.{filled-same}
+use Rattle.model.proofs.First.{first-same}
+use Rattle.tables.specs.declared.Refusal.{Refusal}
+use Rattle.tables.specs.declared.Refusal.the-variants.{NotPlayable}
+use Rattle.tables.specs.declared.Check.{Check}
+use Rattle.tables.specs.declared.Check.the-variants as check
+use Rattle.tables.specs.Layout.{taskCount, rowCount, tasksOf, tableOf, jitterIn}
+use Rattle.tables.specs.Refusals.{at, isClean}
+use Rattle.tables.specs.Checks.{roomCheck, tableCheck}
+use Rattle.tables.specs.Meaning.{TableRight, RoomFor}
+use Rattle.tables.proofs.CheckLaws.{table-deserved, table-gives, table-right, table-clean}
+use Rattle.runs.specs.Jobs.{NoJitter}
+use Rattle.response.specs.declared.Verdict.the-variants as verdict
+use Rattle.response.specs.Verdicts.{isSchedulable}
+use Rattle.response.specs.Analysis.{answerOf}
+use Rattle.response.specs.Outcome.{lateIf, lateAt, resultOf}
+use Rattle.response.proofs.TableLaws.{task-is, tasks-count, tasks-fit}
+use Rattle.response.proofs.Demands.{refused-by, result-cases, answers-kept, verdict-given, plain-answer, answers-filled, result-is}
+use Rattle.engine.specs.Run.{engineAnswer}
+use Rattle.engine.specs.Outcome.{isPlain, playCheck, playVerdict, playWords}
+use Rattle.engine.specs.Statements.{Plain, PlayDeserved, PlayRefusals, TableEveryTick, PlaysEquation, PlaysAsAnalysis, NoSecondPlay}
+use Rattle.engine.proofs.RunLaws.{everyTick, playedIsAnswer}
+use Rattle.engine.proofs.PlayedLaws.{table-decides, not-plain, plain-clean}
+
+-- the test for a plain table passes exactly where the table is plain
+module _ (bytes : List ℕ) where
+  plain-means : isPlain bytes ≡ true → Plain bytes
+  plain-means p =
+      let b = both-true (eqb (rowCount bytes) 0) _ p in
+      let none = eqb-true (largestTo (jitterIn bytes) (taskCount bytes)) 0 (b .1) in
+      record {
+        noRow = eqb-true (rowCount bytes) 0 (b .0);
+        noJitter = λ i h. omega (arith, none, largest-low (jitterIn bytes) (taskCount bytes) i h);
+      }
+
+  plain-holds : Plain bytes → isPlain bytes ≡ true
+  plain-holds plain =
+      let none = largest-high (jitterIn bytes) (taskCount bytes) 0 (λ i h. omega (arith, plain .noJitter i h)) in
+      both-pass (eq-eqb (rowCount bytes) 0 (plain .noRow)) (eq-eqb (largestTo (jitterIn bytes) (taskCount bytes)) 0 (omega (arith, none)))
+
+module _ (bytes : List ℕ) (room : ℕ) where
+  -- a clean check does not refuse
+  clean-passes : (r : Refusal) → playCheck bytes room ≡ check.Clean → ¬ (playCheck bytes room ≡ check.Refused r)
+  clean-passes r p q = clash (isClean (playCheck bytes room)) (ap isClean p) (ap isClean q)
+
+  -- a refusal is given only where it is deserved
+  play-deserved : (r : Refusal) → playCheck bytes room ≡ check.Refused r → PlayDeserved bytes room r
+  play-deserved r given = go (tableCheck bytes room room) refl
+    where
+      go : (c : Check) → tableCheck bytes room room ≡ c → PlayDeserved bytes room r
+      go (check.Refused s) e =
+          inl (table-deserved bytes room room r (e ∙ sym (table-decides bytes room s e) ∙ given))
+      go check.Clean e =
+          elim (bool? (isPlain bytes)) [
+            | inl p ↦ absurd (clean-passes r (plain-clean bytes room e p) given)
+            | inr p ↦
+                let right = table-right bytes room room e in
+                let same : check.Refused NotPlayable ≡ check.Refused r = sym (not-plain bytes room e p) ∙ given in
+                inr (cc, record { right = right .0; room = right .1; notPlain = λ plain. clash (isPlain bytes) (plain-holds bytes plain) p })
+          ]
+
+  -- and one that is deserved is given
+  play-gives : (r : Refusal) → PlayDeserved bytes room r → playCheck bytes room ≡ check.Refused r
+  play-gives r (inl d) = table-decides bytes room r (table-gives bytes room room r d)
+  play-gives r (inr d) =
+      elim (bool? (isPlain bytes)) [
+        | inl p ↦ absurd (d .1 .notPlain (plain-means bytes p))
+        | inr p ↦
+            not-plain bytes room (table-clean bytes room room (d .1 .right) (d .1 .room)) p ∙ ap check.Refused (sym (d .0))
+      ]
+
+  -- what is played breaks no rule, and is plain
+  play-right : playCheck bytes room ≡ check.Clean → TableRight bytes × RoomFor bytes room room × Plain bytes
+  play-right accepted = go (tableCheck bytes room room) refl
+    where
+      go : (c : Check) → tableCheck bytes room room ≡ c → TableRight bytes × RoomFor bytes room room × Plain bytes
+      go (check.Refused s) e = absurd (clean-passes s accepted (table-decides bytes room s e))
+      go check.Clean e =
+          elim (bool? (isPlain bytes)) [
+            | inl p ↦ let right = table-right bytes room room e in (right .0, right .1, plain-means bytes p)
+            | inr p ↦ absurd (clean-passes NotPlayable accepted (not-plain bytes room e p))
+          ]
+
+  -- and such a table is played
+  play-clean : TableRight bytes → RoomFor bytes room room → Plain bytes → playCheck bytes room ≡ check.Clean
+  play-clean right enough plain = plain-clean bytes room (table-clean bytes room room right enough) (plain-holds bytes plain)
+
+  -- a verdict that refuses is that of the check
+  play-refused : (r : Refusal) → verdict.Refused r ≡ playVerdict bytes room → playCheck bytes room ≡ check.Refused r
+  unfolding playVerdict
+  play-refused r e =
+      refused-by (playCheck bytes room) (resultOf (engineAnswer (tasksOf bytes)) (taskCount bytes)) r
+      (result-cases (engineAnswer (tasksOf bytes)) (taskCount bytes)) e
+
+  play-given : (r : Refusal) → playCheck bytes room ≡ check.Refused r → playVerdict bytes room ≡ verdict.Refused r
+  unfolding playVerdict
+  play-given r e = rw e
+
+  -- where no verdict refuses, the check is clean
+  play-accepted : ((r : Refusal) → ¬ (playVerdict bytes room ≡ verdict.Refused r)) → playCheck bytes room ≡ check.Clean
+  play-accepted never = go (playCheck bytes room) refl
+    where
+      go : (c : Check) → playCheck bytes room ≡ c → playCheck bytes room ≡ check.Clean
+      go check.Clean e = e
+      go (check.Refused r) e = absurd (never r (play-given r e))
+
+-- a refusal leaves the slice as it was
+words-kept : (bytes answers : List ℕ) (r : Refusal) → playCheck bytes (length answers) ≡ check.Refused r → playWords bytes answers ≡ answers
+unfolding playWords
+words-kept bytes answers r e = rw e
+
+pub playRefusals : PlayRefusals
+playRefusals =
+    record {
+      answered = λ bytes answers. (
+        playVerdict bytes (length answers),
+        playWords bytes answers,
+        record { verdictIs = refl; answersAre = refl },
+      );
+      refused = λ bytes answers left r o.
+          let e = play-refused bytes (length answers) r (o .verdictIs) in
+          (play-deserved bytes (length answers) r e, o .answersAre ∙ words-kept bytes answers r e);
+      given = λ bytes answers left v r d o.
+          o .verdictIs ∙ play-given bytes (length answers) r (play-gives bytes (length answers) r d);
+      notRefused = λ bytes answers left v o never.
+          play-right bytes (length answers) (play-accepted bytes (length answers) (λ r e. never r (o .verdictIs ∙ e)));
+      accepted = λ bytes answers left r right room plain o.
+          clean-passes bytes (length answers) r (play-clean bytes (length answers) right room plain)
+          (play-refused bytes (length answers) r (o .verdictIs));
+    }
+
+-- the tasks of a table that breaks no rule are at most 32
+few : (bytes : List ℕ) → TableRight bytes → length (tasksOf bytes) ≤ 32
+few bytes right = omega (arith, tasks-count bytes, right .head .counts .tasksHigh)
+
+pub tableEveryTick : TableEveryTick
+tableEveryTick bytes right = everyTick (tasksOf bytes) (tasks-fit bytes (right .records)) (few bytes right)
+
+module _ (bytes : List ℕ) (right : TableRight bytes) (plain : Plain bytes) where
+  -- the tasks of a plain table have no jitter
+  calm : NoJitter (tasksOf bytes)
+  calm i h =
+      let inside : i < taskCount bytes = omega (arith, tasks-count bytes) in
+      ap (λ (t : Task). t .jitter) (task-is bytes i inside) ∙ plain .noJitter i inside
+
+  -- so the engine's answers are the analysis's
+  same-answer : (i : ℕ) → i < taskCount bytes → engineAnswer (tasksOf bytes) i ≡ answerOf (tableOf bytes) i
+  same-answer i h =
+      playedIsAnswer (tasksOf bytes) (tasks-fit bytes (right .records)) calm (few bytes right) i (omega (arith, tasks-count bytes))
+      ∙ sym (plain-answer bytes calm (plain .noRow) i h)
+
+pub playsEquation : PlaysEquation
+unfolding playVerdict playWords
+playsEquation bytes answers left v o right room plain =
+    let clean = play-clean bytes (length answers) right room plain in
+    let same = same-answer bytes right plain in
+    record {
+      answersAre =
+          o .answersAre ∙ rw clean (filled-same (engineAnswer (tasksOf bytes)) (answerOf (tableOf bytes)) (taskCount bytes) answers same);
+      resultIs =
+          o .verdictIs
+          ∙ rw clean
+          (first-same isSchedulable verdict.Schedulable (lateAt (engineAnswer (tasksOf bytes))) (lateAt (answerOf (tableOf bytes))) (taskCount bytes)
+          (λ i h. ap (λ (x : ℕ). lateIf x (at i)) (same i h)));
+    }
+
+-- where there is room for the rounds, the analysis checks as the engine does
+same-check : (bytes : List ℕ) (answers rounds : ℕ) → taskCount bytes ≤ rounds → tableCheck bytes answers answers ≡ tableCheck bytes answers rounds
+unfolding tableCheck roomCheck
+same-check bytes answers rounds h =
+    elim (bool? (leb (taskCount bytes) answers)) [
+      | inl p ↦ rw (p, le-leb (taskCount bytes) rounds h)
+      | inr p ↦ rw p
+    ]
+
+pub playsAsAnalysis : PlaysAsAnalysis
+playsAsAnalysis bytes answers rounds left answersLeft roundsLeft v other o p enough never =
+    go (playCheck bytes (length answers)) refl
+  where
+    go : (c : Check) → playCheck bytes (length answers) ≡ c → (v ≡ other) × (left ≡ answersLeft)
+    go check.Clean e =
+        let right = play-right bytes (length answers) e in
+        let room : RoomFor bytes (length answers) (length rounds) = record { answersLong = right .1 .answersLong; roundsLong = enough } in
+        let equal = playsEquation bytes answers left v o (right .0) (right .1) (right .2) in (
+          equal .resultIs ∙ sym (result-is bytes answers rounds other answersLeft roundsLeft p (right .0) room),
+          equal .answersAre ∙ sym (answers-filled bytes answers rounds other answersLeft roundsLeft p (right .0) room),
+        )
+    go (check.Refused r) e =
+        elim (play-deserved bytes (length answers) r e) [
+          | inl d ↦
+              let refused = sym (same-check bytes (length answers) (length rounds) enough) ∙ table-gives bytes (length answers) (length answers) r d in (
+                o .verdictIs ∙ play-given bytes (length answers) r e ∙ sym (p .verdictIs ∙ verdict-given bytes answers rounds r refused),
+                o .answersAre ∙ words-kept bytes answers r e ∙ sym (p .answersAre ∙ answers-kept bytes answers rounds r refused),
+              )
+          | inr d ↦ absurd (never (o .verdictIs ∙ play-given bytes (length answers) r e ∙ ap verdict.Refused (d .0)))
+        ]
+
+pub noSecondPlay : NoSecondPlay
+noSecondPlay bytes answers left leftOther v other o p =
+    (o .verdictIs ∙ sym (p .verdictIs), o .answersAre ∙ sym (p .answersAre))

@@ -1,0 +1,4 @@
+pub mod Run
+pub mod Outcome
+pub mod Stages
+pub mod Statements

@@ -1,0 +1,40 @@
+-- What `play` answers and leaves in its one slice, for any bytes and any slice (document 02, L1).
+-- Assumes nothing.
+use Prim.Native.Nat.{ℕ, _≤_, _<_}
+use mathlib.Core.Path.{_≡_}
+use mathlib.Core.Bool.{Bool}
+use mathlib.Core.List.{List, [], _∷_}
+use lib.Dec.{eqb}
+use lib.ListN.{length}
+use Rattle.model.specs.Choice.{both}
+use Rattle.model.specs.Lists.{filled, largestTo}
+use Rattle.tables.specs.declared.Refusal.the-variants.{NotPlayable}
+use Rattle.tables.specs.declared.Check.{Check}
+use Rattle.tables.specs.Layout.{taskCount, rowCount, tasksOf, jitterIn}
+use Rattle.tables.specs.Refusals.{unless, firstIn}
+use Rattle.tables.specs.Checks.{tableCheck}
+use Rattle.response.specs.declared.Verdict.{Verdict}
+use Rattle.response.specs.Outcome.{resultOf, verdictFor, wordsAfter}
+use Rattle.engine.specs.Run.{engineAnswer}
+
+-- no row, and no jitter above 0
+abbrev pub isPlain : List ℕ → Bool
+isPlain bytes = both (eqb (rowCount bytes) 0) (eqb (largestTo (jitterIn bytes) (taskCount bytes)) 0)
+
+-- "Any nonzero jitter or delay, or any row, gets a new refusal 9, after 8, place 0": the analysis's checks, with the one slice for both
+-- of its slices, and then that one
+unfoldable pub playCheck : List ℕ → ℕ → Check
+playCheck bytes answers = firstIn (tableCheck bytes answers answers ∷ unless (isPlain bytes) NotPlayable ∷ [])
+
+-- "to give the equation's answers and result, in one answer slice"; "no word changed" where it refuses, and later words stay
+unfoldable pub playVerdict : List ℕ → ℕ → Verdict
+playVerdict bytes answers = verdictFor (playCheck bytes answers) (resultOf (engineAnswer (tasksOf bytes)) (taskCount bytes))
+
+unfoldable pub playWords : List ℕ → List ℕ → List ℕ
+playWords bytes answers =
+    wordsAfter (playCheck bytes (length answers)) (filled (engineAnswer (tasksOf bytes)) (taskCount bytes) answers) answers
+
+-- The whole outcome: the verdict, and every word of the slice.
+pub record Played (bytes answers : List ℕ) (verdict : Verdict) (left : List ℕ) : Type 0 where
+  pub verdictIs : verdict ≡ playVerdict bytes (length answers)
+  pub answersAre : left ≡ playWords bytes answers

@@ -1,0 +1,83 @@
+-- What is claimed of the engine for the bytes of any table (document 02, L1), as named statements about what `play` answers and leaves
+-- (`Played`, its contract). The proofs are in proofs/Claims.antt.
+-- Assumes nothing.
+use Prim.Native.Nat.{ℕ, _≤_, _<_}
+use mathlib.Core.Path.{_≡_}
+use mathlib.Core.Logic.{_⊎_}
+use mathlib.Core.List.{List}
+use lib.ListN.{length}
+use Rattle.model.specs.Lists.{filled}
+use Rattle.tables.specs.declared.Refusal.{Refusal}
+use Rattle.tables.specs.declared.Refusal.the-variants.{NotPlayable}
+use Rattle.tables.specs.Layout.{taskCount, rowCount, tasksOf, tableOf, jitterIn}
+use Rattle.tables.specs.Meaning.{TableRight, RoomFor, Deserved}
+use Rattle.runs.specs.Schedule.{Schedule, LegalSchedule}
+use Rattle.runs.specs.Synchronous.{synchronous}
+use Rattle.response.specs.declared.Verdict.{Verdict}
+use Rattle.response.specs.declared.Verdict.the-variants.{Refused}
+use Rattle.response.specs.Analysis.{answerOf}
+use Rattle.response.specs.Outcome.{Outcome, resultOf}
+use Rattle.engine.specs.Run.{AsInRun}
+use Rattle.engine.specs.Outcome.{Played}
+
+-- "Any nonzero jitter or delay, or any row" is what a table must not have
+pub record Plain (bytes : List ℕ) : Type 0 where
+  pub noRow : rowCount bytes ≡ 0
+  pub noJitter : (i : ℕ) → i < taskCount bytes → jitterIn bytes i ≡ 0
+
+-- 9, "after 8": the table breaks no rule, there is room, and it is not plain
+pub record CannotPlay (bytes : List ℕ) (answers : ℕ) : Type 0 where
+  pub right : TableRight bytes
+  pub room : RoomFor bytes answers answers
+  pub notPlain : ¬ Plain bytes
+
+-- when a refusal is deserved: one of document 01's, with the one slice for both, or 9
+abbrev pub PlayDeserved : List ℕ → ℕ → Refusal → Type 0
+PlayDeserved bytes answers refusal = Deserved bytes answers answers refusal ⊎ ((refusal ≡ NotPlayable) × CannotPlay bytes answers)
+
+-- Any bytes and any slice get an answer. `play` has no `requires` and is proved to return; what it returns is `Played`, and there is
+-- one for all bytes and slices.
+pub record PlayRefusals : Type 0 where
+  pub answered : (bytes answers : List ℕ) → (verdict : Verdict) × (left : List ℕ) × Played bytes answers verdict left
+  -- a refusal that is given is deserved, and "no word changed"
+  pub refused : (bytes answers left : List ℕ) (refusal : Refusal) → Played bytes answers (Refused refusal) left →
+      PlayDeserved bytes (length answers) refusal × (left ≡ answers)
+  -- and one that is deserved is given
+  pub given : (bytes answers left : List ℕ) (verdict : Verdict) (refusal : Refusal) → PlayDeserved bytes (length answers) refusal →
+      Played bytes answers verdict left → verdict ≡ Refused refusal
+  -- a table that is not refused breaks no rule, has room, and is plain
+  pub notRefused : (bytes answers left : List ℕ) (verdict : Verdict) → Played bytes answers verdict left →
+      ((refusal : Refusal) → ¬ (verdict ≡ Refused refusal)) → TableRight bytes × RoomFor bytes (length answers) (length answers) × Plain bytes
+  -- and such a table is never refused
+  pub accepted : (bytes answers left : List ℕ) (refusal : Refusal) → TableRight bytes → RoomFor bytes (length answers) (length answers) →
+      Plain bytes → ¬ Played bytes answers (Refused refusal) left
+
+-- "It is proved to do what a run of document 01 does at every tick": `EveryTick`, for the tasks of any accepted table
+abbrev pub TableEveryTick : Type 0
+TableEveryTick =
+    (bytes : List ℕ) → TableRight bytes → (ticks : ℕ) (s : Schedule) →
+    LegalSchedule (tasksOf bytes) ticks (synchronous (tasksOf bytes) ticks) s → (t : ℕ) → t ≤ ticks → AsInRun (tasksOf bytes) ticks s t
+
+-- the words and the verdict that the equation gives, by the definitions of demand 2
+pub record AsEquation (bytes answers : List ℕ) (verdict : Verdict) (left : List ℕ) : Type 0 where
+  pub answersAre : left ≡ filled (answerOf (tableOf bytes)) (taskCount bytes) answers
+  pub resultIs : verdict ≡ resultOf (answerOf (tableOf bytes)) (taskCount bytes)
+
+-- "and to give the equation's answers and result, in one answer slice"
+abbrev pub PlaysEquation : Type 0
+PlaysEquation =
+    (bytes answers left : List ℕ) (verdict : Verdict) → Played bytes answers verdict left →
+    TableRight bytes → RoomFor bytes (length answers) (length answers) → Plain bytes → AsEquation bytes answers verdict left
+
+-- So where the engine does not refuse with 9, it and `analyse`, which is lent room for the rounds too, say and leave the same.
+abbrev pub PlaysAsAnalysis : Type 0
+PlaysAsAnalysis =
+    (bytes answers rounds left answersLeft roundsLeft : List ℕ) (verdict other : Verdict) →
+    Played bytes answers verdict left → Outcome bytes answers rounds other answersLeft roundsLeft →
+    taskCount bytes ≤ length rounds → ¬ (verdict ≡ Refused NotPlayable) → (verdict ≡ other) × (left ≡ answersLeft)
+
+-- the contract leaves no second answer: the verdict and every word of the slice are determined
+abbrev pub NoSecondPlay : Type 0
+NoSecondPlay =
+    (bytes answers left leftOther : List ℕ) (verdict other : Verdict) →
+    Played bytes answers verdict left → Played bytes answers other leftOther → (verdict ≡ other) × (left ≡ leftOther)

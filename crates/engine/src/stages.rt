@@ -1,0 +1,156 @@
+// The stages behind a right head: the records, the rows, the room, then the play. Each refuses before a word is written.
+ghost use mathlib.Core.Path.{_≡_};
+ghost use Prim.Native.Nat.{_≤_};
+ghost use lib.ListN.{length};
+ghost use Rattle.tables.specs.Layout.{rowCount, costIn};
+ghost use Rattle.tables.specs.declared.Check.the-variants as check;
+ghost use Rattle.tables.specs.declared.records.First.the-variants as found;
+ghost use Rattle.tables.specs.Checks.{headCheck};
+ghost use Rattle.tables.specs.Reading.{firstRecord};
+ghost use Rattle.machine.specs.Slices.{wordAt};
+ghost use Rattle.response.specs.Outcome.{resultOf};
+ghost use Rattle.response.specs.Stages.{Holds};
+ghost use Rattle.engine.specs.Outcome.{Played, playCheck};
+ghost use Rattle.engine.specs.Stages.{RecordsRead, NumbersHeld};
+use machine::largest;
+use machine::play_all;
+use model::Place;
+use response::Verdict;
+use tables::Check;
+use tables::Refusal;
+use tables::fields::count;
+use tables::records::First;
+use tables::records::TaskRecord;
+
+// The head is right: looks at the first record before room is made for all.
+pub fn after_head(table: &[u8], answers: &mut [u32]) -> Verdict
+    requires { ⌜ headCheck (now table) ≡ check.Clean ⌝ }
+    ensures { λ r. ⌜ Played (now (table .entry)) (now (answers .entry)) r (now (answers .exit)) ⌝ }
+{
+    let found = tables::records::read_first(table);
+    match found {
+        First::Read(task) => after_first(table, task, answers),
+        First::Refused(refusal) => Verdict::Refused(refusal),
+    }
+}
+
+// The first record is right: reads the others.
+pub fn after_first(table: &[u8], first: TaskRecord, answers: &mut [u32]) -> Verdict
+    requires { ⌜ headCheck (now table) ≡ check.Clean ⌝ }
+    requires { ⌜ found.Read first ≡ firstRecord (now table) ⌝ }
+    ensures { λ r. ⌜ Played (now (table .entry)) (now (answers .entry)) r (now (answers .exit)) ⌝ }
+{
+    let n = count(table[3]);
+    let mut priorities = [0u8; 32];
+    let mut periods = [0u32; 32];
+    let mut costs = [0u32; 32];
+    let mut deadlines = [0u32; 32];
+    let mut jitters = [0u32; 32];
+    priorities[0] = first.priority.0;
+    periods[0] = first.period.0;
+    costs[0] = first.cost.0;
+    deadlines[0] = first.deadline.0;
+    jitters[0] = first.jitter.0;
+    let checked = tables::records::read_rest(
+        table,
+        n,
+        &mut priorities,
+        &mut periods,
+        &mut costs,
+        &mut deadlines,
+        &mut jitters,
+    );
+    match checked {
+        Check::Clean => after_records(table, n, &periods, &costs, &deadlines, &jitters, answers),
+        Check::Refused(refusal) => Verdict::Refused(refusal),
+    }
+}
+
+// The records are right: a table with rows is refused, one way or another.
+pub fn after_records(
+    table: &[u8],
+    n: usize,
+    periods: &[u32],
+    costs: &[u32],
+    deadlines: &[u32],
+    jitters: &[u32],
+    answers: &mut [u32],
+) -> Verdict
+    requires { ⌜ NumbersHeld (now table) n (now periods) (now costs) (now deadlines) (now jitters) ⌝ }
+    ensures { λ r. ⌜ Played (now (table .entry)) (now (answers .entry)) r (now (answers .exit)) ⌝ }
+{
+    let m = count(table[4]);
+    if m == 0 {
+        return without_rows(table, n, periods, costs, deadlines, jitters, answers);
+    }
+    let refusal = with_rows(table, n, m, costs, answers.len());
+    Verdict::Refused(refusal)
+}
+
+// Rows that are wrong come first, then the room; rows that are right cannot be played.
+pub fn with_rows(table: &[u8], n: usize, m: usize, costs: &[u32], room: usize) -> Refusal
+    requires { ⌜ RecordsRead (now table) n ⌝ }
+    requires { ⌜ Holds (now costs) n (costIn (now table)) ⌝ }
+    requires { ⌜ (m ≡ rowCount (now table)) × (1 ≤ m) ⌝ }
+    ensures { λ r. ⌜ check.Refused r ≡ playCheck (now (table .entry)) room ⌝ }
+{
+    let mut places = [0u8; 64];
+    let mut semaphores = [0u8; 64];
+    let mut longest = [0u32; 64];
+    let checked = tables::rows::read_all(
+        table,
+        n,
+        m,
+        costs,
+        &mut places,
+        &mut semaphores,
+        &mut longest,
+    );
+    match checked {
+        Check::Clean => {
+            if room < n {
+                return Refusal::NoRoom;
+            }
+            Refusal::NotPlayable
+        }
+        Check::Refused(refusal) => refusal,
+    }
+}
+
+// No rows: looks at the room, then for jitter, and plays.
+pub fn without_rows(
+    table: &[u8],
+    n: usize,
+    periods: &[u32],
+    costs: &[u32],
+    deadlines: &[u32],
+    jitters: &[u32],
+    answers: &mut [u32],
+) -> Verdict
+    requires { ⌜ NumbersHeld (now table) n (now periods) (now costs) (now deadlines) (now jitters) ⌝ }
+    requires { ⌜ rowCount (now table) ≡ 0 ⌝ }
+    ensures { λ r. ⌜ Played (now (table .entry)) (now (answers .entry)) r (now (answers .exit)) ⌝ }
+{
+    if answers.len() < n {
+        return Verdict::Refused(Refusal::NoRoom);
+    }
+    let jitter = largest(jitters, n);
+    if jitter.0 != 0 {
+        return Verdict::Refused(Refusal::NotPlayable);
+    }
+    play_all(periods, costs, deadlines, n, answers);
+    result(answers, n)
+}
+
+// Late at the first place whose answer is 0.
+fn result(answers: &[u32], n: usize) -> Verdict
+    requires { ⌜ n ≤ length (now answers) ⌝ }
+    ensures { λ r. ⌜ r ≡ resultOf (wordAt (now (answers .entry))) n ⌝ }
+{
+    for i in 0..n {
+        if answers[i] == 0 {
+            return Verdict::Late(Place(i));
+        }
+    }
+    Verdict::Schedulable
+}
