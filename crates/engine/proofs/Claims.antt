@@ -26,9 +26,10 @@ use Rattle.tables.specs.Meaning.{TableRight, RoomFor}
 use Rattle.tables.proofs.CheckLaws.{table-deserved, table-gives, table-right, table-clean}
 use Rattle.runs.specs.Jobs.{NoJitter}
 use Rattle.response.specs.declared.Verdict.the-variants as verdict
-use Rattle.response.specs.Verdicts.{isSchedulable}
+use Rattle.response.specs.Verdicts.{verdictPlace, isSchedulable}
 use Rattle.response.specs.Analysis.{answerOf}
-use Rattle.response.specs.Outcome.{lateIf, lateAt, resultOf}
+use Rattle.response.specs.Outcome.{lateIf, lateAt, resultOf, verdictFor}
+use Rattle.response.proofs.PlaceLaws.{refusal-place, result-place}
 use Rattle.response.proofs.TableLaws.{task-is, tasks-count, tasks-fit}
 use Rattle.response.proofs.Demands.{refused-by, result-cases, answers-kept, verdict-given, plain-answer, answers-filled, result-is}
 use Rattle.engine.specs.Run.{engineAnswer}
@@ -213,3 +214,21 @@ playsAsAnalysis bytes answers rounds left answersLeft roundsLeft v other o p eno
 pub noSecondPlay : NoSecondPlay
 noSecondPlay bytes answers left leftOther v other o p =
     (o .verdictIs ∙ sym (p .verdictIs), o .answersAre ∙ sym (p .answersAre))
+
+-- the place of every verdict is small
+pub play-place : (bytes : List ℕ) (answers : ℕ) → verdictPlace (playVerdict bytes answers) < 256
+unfolding playVerdict
+play-place bytes answers = go (playCheck bytes answers) refl
+  where
+    go : (c : Check) → playCheck bytes answers ≡ c → verdictPlace (verdictFor c (resultOf (engineAnswer (tasksOf bytes)) (taskCount bytes))) < 256
+    go check.Clean e =
+        omega (
+          arith,
+          result-place (engineAnswer (tasksOf bytes)) (taskCount bytes),
+          play-right bytes answers e .0 .head .counts .tasksHigh,
+        )
+    go (check.Refused r) e =
+        elim (play-deserved bytes answers r e) [
+          | inl d ↦ refusal-place bytes answers answers r d
+          | inr d ↦ rw (d .0) (omega arith)
+        ]

@@ -7,8 +7,9 @@ use lib.ListN.{length}
 use Rattle.response.specs.declared.Verdict.{Verdict}
 use Rattle.response.specs.Verdicts.{codeOf, verdictPlace}
 use Rattle.response.specs.Outcome.{verdictOf, answersAfter, roundsAfter}
+use Rattle.engine.specs.Outcome.{playVerdict, playWords}
 
--- code 0 is schedulable, 1 to 8 the refusal of that number, 255 late
+-- code 0 is schedulable, 1 to 9 the refusal of that number, 255 late
 abbrev pub packed : Verdict → ℕ
 packed verdict = codeOf verdict * 4294967296 + verdictPlace verdict
 
@@ -17,3 +18,8 @@ pub record PackedOutcome (bytes answers rounds : List ℕ) (number : ℕ) (answe
   pub verdictIs : number ≡ packed (verdictOf bytes (length answers) (length rounds))
   pub answersAre : answersLeft ≡ answersAfter bytes answers rounds
   pub roundsAre : roundsLeft ≡ roundsAfter bytes answers rounds
+
+-- The same of the engine, which has one slice.
+pub record PackedPlay (bytes answers : List ℕ) (number : ℕ) (left : List ℕ) : Type 0 where
+  pub verdictIs : number ≡ packed (playVerdict bytes (length answers))
+  pub answersAre : left ≡ playWords bytes answers

@@ -2,7 +2,7 @@
 ghost use mathlib.Core.Path.{_≡_};
 ghost use Prim.Native.Nat.{_<_};
 ghost use Rattle.response.specs.Verdicts.{verdictPlace};
-ghost use Rattle.firmware.specs.Packing.{packed, PackedOutcome};
+ghost use Rattle.firmware.specs.Packing.{packed, PackedOutcome, PackedPlay};
 use response::Verdict;
 use response::code;
 use response::place;
@@ -21,4 +21,12 @@ pub extern "C" fn ulmerascio_analyse(table: &[u8], answers: &mut [u32], rounds: 
     ensures { λ r. ⌜ PackedOutcome (now (table .entry)) (now (answers .entry)) (now (rounds .entry)) r (now (answers .exit)) (now (rounds .exit)) ⌝ }
 {
     pack(response::analyse(table, answers, rounds))
+}
+
+// The engine's verdict and answers, found by playing the table tick by tick.
+#[no_mangle]
+pub extern "C" fn ulmerascio_play(table: &[u8], answers: &mut [u32]) -> u64
+    ensures { λ r. ⌜ PackedPlay (now (table .entry)) (now (answers .entry)) r (now (answers .exit)) ⌝ }
+{
+    pack(engine::play(table, answers))
 }

@@ -4,4 +4,5 @@ pub mod ReportLaws
 pub mod SameLaws
 pub mod StepLaws
 pub mod ReleaseLaws
+pub mod ServeLaws
 pub mod PlayLaws

@@ -2,75 +2,22 @@
 -- Assumes nothing.
 use Prim.Native.Nat.{ℕ, zero, suc, _+_, _-_, _*_, _≤_, _<_}
 use native.Mathlib.Omega.{arith}
-use native.Mathlib.Decide.{ℕ-discrete}
 use native.Mathlib.Numerals.{add-one}
-use mathlib.Core.Path.{_≡_, refl, sym, _∙_, ap, subst}
+use mathlib.Core.Path.{_≡_, refl, sym, _∙_, ap}
 use mathlib.Core.List.{List}
-use mathlib.Core.Logic.{_⊎_, inl, inr}
-use lib.Dec.{eqb, ltb}
-use lib.ListN.{length, getD, set, replicate, length-replicate, getD-replicate, length-set}
-use Rattle.model.specs.Choice.{pick, both, on}
+use mathlib.Core.Logic.{inl, inr}
+use lib.ListN.{length, getD, set, replicate, length-replicate, getD-replicate}
 use Rattle.model.specs.Lists.{filled, largestTo}
 use Rattle.model.proofs.Lists.{getD-filled, length-filled, largest-low, largest-high}
 use Rattle.model.proofs.Filling.{filled-set, filled-again, filled-same, filled-word, is-filled}
 use Rattle.model.proofs.Tests.{eqb?, ltb?}
-use Rattle.machine.specs.Machine.{State, started, released, served, after, nextPlace, placeServed, leftAfter, readyAfter, earliest, none, played}
-use Rattle.machine.specs.Slices.{wordAt, TasksHeld, DeadlinesHeld, StateHeld, Holds, HasNext, stateIn, releasedIn, servedIn}
-use Rattle.machine.proofs.MachineLaws.{Next, inTick, left-high, due-is, the-next, start-ready, stay-ready, after-own, after-other}
+use Rattle.machine.specs.Machine.{State, after, nextPlace, placeServed, earliest, none, played}
+use Rattle.machine.specs.Slices.{wordAt, TasksHeld, DeadlinesHeld, StateHeld, Holds, HasNext, stateIn, releasedIn, servedIn, reportedIn}
+use Rattle.machine.proofs.MachineLaws.{Next, inTick, left-step, left-high, due-is, the-next, start-ready, stay-ready, after-own}
 use Rattle.machine.proofs.ReportLaws.{reported, report-none, report-late, report-all, report-on, report-other, report-quiet, report-own}
 use Rattle.machine.proofs.SameLaws.{Same, release-same, serve-same}
 use Rattle.machine.proofs.ReleaseLaws.{earliest-high, earliest-same}
 
--- The work of a tick, once its releases are made.
-module _ (periods costs : List ℕ) (n t : ℕ) (left due : List ℕ) (ready : ℕ) (few : n ≤ 32) (leftLong : n ≤ length left)
-    (has : HasNext n (releasedIn periods costs n t left due ready)) (leftNow dueNow : List ℕ) (readyNow next place : ℕ)
-    (holds : Holds n left due (releasedIn periods costs n t left due ready) leftNow dueNow readyNow next)
-    (is : place ≡ nextPlace readyNow) where
-  abbrev state : State
-  state = releasedIn periods costs n t left due ready
-
-  place-is : place ≡ nextPlace (state .ready)
-  place-is = is ∙ ap nextPlace (holds .readyIs)
-
-  isPlace : place < n
-  isPlace = rw place-is (has .isPlace)
-
-  word-is : wordAt leftNow place ≡ state .left (nextPlace (state .ready))
-  word-is =
-      ap (λ (words : List ℕ). wordAt words place) (holds .leftIs) ∙ getD-filled (state .left) n place left 0 isPlace
-      ∙ ap (state .left) place-is
-
-  -- what `serve` asks
-  pub serve-fits : (place < 32) × (place < length leftNow) × (1 ≤ wordAt leftNow place)
-  serve-fits = (
-    omega (arith, isPlace),
-    rw (holds .leftIs, length-filled (state .left) n left leftLong) (omega (arith, isPlace)),
-    rw word-is (has .hasWork),
-  )
-
-  -- what it leaves is the state after the tick
-  pub tick-served : (leftAfterwards : List ℕ) (rest : ℕ) → leftAfterwards ≡ set leftNow place (wordAt leftNow place - 1) →
-      rest ≡ readyAfter (eqb (wordAt leftNow place) 1) place readyNow →
-      Holds n left due (servedIn periods costs n t left due ready) leftAfterwards dueNow rest next × (place ≡ nextPlace (state .ready))
-  tick-served leftAfterwards rest stored cleared = (
-    record {
-      leftIs =
-          stored
-          ∙ ap (λ (words : List ℕ). set words place (wordAt leftNow place - 1)) (holds .leftIs)
-          ∙ filled-set (state .left) (leftAfter (state .left) (nextPlace (state .ready))) n place (wordAt leftNow place - 1) left leftLong isPlace
-          (ap (λ (x : ℕ). x - 1) word-is ∙ own)
-          (λ k h other. sym (after-other (state .left) (nextPlace (state .ready)) k (λ e. other (e ∙ sym place-is))));
-      dueIs = holds .dueIs;
-      readyIs = cleared ∙ rw (word-is, place-is, holds .readyIs);
-      nextIs = holds .nextIs;
-    },
-    place-is,
-  )
-    where
-      own : state .left (nextPlace (state .ready)) - 1 ≡ leftAfter (state .left) (nextPlace (state .ready)) place
-      own = sym (after-own (state .left) (nextPlace (state .ready)) place place-is ∙ ap (λ (p : ℕ). state .left p - 1) place-is)
-
--- The play.
 module _ (periods costs : List ℕ) (n : ℕ) where
   abbrev engine : ℕ → State
   engine t = after (wordAt periods) (wordAt costs) n t
@@ -154,6 +101,67 @@ module _ (periods costs : List ℕ) (n : ℕ) where
         pub place-fits : place < n
         place-fits = rw place-served (nextOne .isPlace)
 
+      -- what is reported
+      module _ (deadlines old answers : List ℕ) (due? : DeadlinesHeld periods deadlines n) (room : n ≤ length old) where
+        abbrev told : ℕ → ℕ → ℕ
+        told x = reported (wordAt periods) (wordAt costs) n (wordAt deadlines) x
+
+        module _ (place : ℕ) (is : place ≡ nextPlace (releasedIn periods costs n t left due ready .ready))
+            (are : answers ≡ filled (told t) n old) where
+          inside : place < n
+          inside = place-fits place is
+
+          -- the work that is there, and what the tick leaves of it
+          abbrev work : ℕ
+          work = releasedIn periods costs n t left due ready .left place
+
+          work-is : work ≡ raisedAt t .left place
+          work-is = releasedSame .left place inside
+
+          some : 1 ≤ work
+          some = rw (work-is, place-served place is) (nextOne .hasWork)
+
+          left-is : engine (suc t) .left place ≡ work - 1
+          left-is =
+              left-step (wordAt periods) (wordAt costs) n t place
+              ∙ after-own (raisedAt t .left) (placeServed (wordAt periods) (wordAt costs) n t) place (place-served place is)
+              ∙ ap (λ (x : ℕ). x - 1) (sym work-is)
+
+          before : wordAt answers place ≡ told t place
+          before = ap (λ (words : List ℕ). wordAt words place) are ∙ getD-filled (told t) n place old 0 inside
+
+          abbrev write : ℕ
+          write = reportedIn work t (wordAt deadlines place) (wordAt answers place)
+
+          written : write ≡ told (suc t) place
+          written =
+              elim (eqb? work 1) [
+                | inr w ↦
+                    rw (w .0)
+                    (before
+                    ∙ sym (report-on (wordAt periods) (wordAt costs) n (wordAt deadlines) t place
+                    (λ z. w .1 (omega (arith, left-is, some, z)))))
+                | inl w ↦
+                    elim (ltb? t (wordAt deadlines place)) [
+                      | inr l ↦
+                          rw (w .0, l .0)
+                          (before ∙ sym (report-late (wordAt periods) (wordAt costs) n (wordAt deadlines) t place (l .1)))
+                      | inl l ↦
+                          rw (w .0, l .0, add-one)
+                          (sym (report-own (wordAt periods) (wordAt costs) n (wordAt deadlines) (tasks .costLow) (tasks .few)
+                          (due? .high) t place inside (play .going) (place-served place is) (omega (arith, left-is, w .1)) (l .1)))
+                    ]
+              ]
+
+          pub told-more : (now : List ℕ) → now ≡ set answers place write → now ≡ filled (told (t + 1)) n old
+          told-more now stored =
+              rw add-one
+              (stored
+              ∙ ap (λ (words : List ℕ). set words place write) are
+              ∙ filled-set (told t) (told (suc t)) n place write old room inside written
+              (λ k h other. sym (report-other (wordAt periods) (wordAt costs) n (wordAt deadlines) (tasks .costLow) t k h
+              (λ e. other (e ∙ sym (place-served place is))))))
+
       module _ (leftNow dueNow : List ℕ) (rest again : ℕ)
           (holds : Holds n left due (servedIn periods costs n t left due ready) leftNow dueNow rest again) where
         servedSame : Same n (servedIn periods costs n t left due ready) (engine (suc t))
@@ -197,59 +205,15 @@ module _ (periods costs : List ℕ) (n : ℕ) where
                   (λ z. some (rest-is ∙ z));
             })
 
-        -- what is reported
-        module _ (deadlines old answers : List ℕ) (due? : DeadlinesHeld periods deadlines n) (room : n ≤ length old) where
-          abbrev told : ℕ → ℕ → ℕ
-          told x = reported (wordAt periods) (wordAt costs) n (wordAt deadlines) x
-
-          module _ (place : ℕ) (is : place ≡ nextPlace (releasedIn periods costs n t left due ready .ready))
-              (are : answers ≡ filled (told t) n old) where
-            inside : place < n
-            inside = place-fits place is
-
-            abbrev write : ℕ
-            write = pick (both (eqb (wordAt leftNow place) 0) (ltb t (wordAt deadlines place))) (t + 1) (wordAt answers place)
-
-            before : wordAt answers place ≡ told t place
-            before = ap (λ (words : List ℕ). wordAt words place) are ∙ getD-filled (told t) n place old 0 inside
-
-            written : write ≡ told (suc t) place
-            written =
-                elim (eqb? (wordAt leftNow place) 0) [
-                  | inr w ↦
-                      rw (w .0)
-                      (before
-                      ∙ sym (report-on (wordAt periods) (wordAt costs) n (wordAt deadlines) t place
-                      (λ z. w .1 (leftNow-is place inside ∙ z))))
-                  | inl w ↦
-                      elim (ltb? t (wordAt deadlines place)) [
-                        | inr l ↦
-                            rw (w .0, l .0)
-                            (before ∙ sym (report-late (wordAt periods) (wordAt costs) n (wordAt deadlines) t place (l .1)))
-                        | inl l ↦
-                            rw (w .0, l .0, add-one)
-                            (sym (report-own (wordAt periods) (wordAt costs) n (wordAt deadlines) (tasks .costLow) (tasks .few)
-                            (due? .high) t place inside (play .going) (place-served place is) (sym (leftNow-is place inside) ∙ w .1) (l .1)))
-                      ]
-                ]
-
-            pub told-more : (now : List ℕ) → now ≡ set answers place write → now ≡ filled (told (t + 1)) n old
-            told-more now stored =
-                rw add-one
-                (stored
-                ∙ ap (λ (words : List ℕ). set words place write) are
-                ∙ filled-set (told t) (told (suc t)) n place write old room inside written
-                (λ k h other. sym (report-other (wordAt periods) (wordAt costs) n (wordAt deadlines) (tasks .costLow) t k h
-                (λ e. other (e ∙ sym (place-served place is))))))
-
-            -- where no task has work left, all is told
-            pub told-all : (now : List ℕ) → now ≡ set answers place write → rest ≡ 0 →
-                now ≡ filled (played (wordAt periods) (wordAt costs) n (wordAt deadlines)) n old
-            told-all now stored quiet =
-                rw add-one at (told-more now stored)
-                ∙ filled-same (told (suc t)) (played (wordAt periods) (wordAt costs) n (wordAt deadlines)) n old
-                (λ k h. report-quiet (wordAt periods) (wordAt costs) n (wordAt deadlines) (tasks .costLow) (tasks .few) (suc t) k h
-                (omega arith) (sym rest-is ∙ quiet))
+        -- where no task has work left, all is told
+        pub told-all : (deadlines old now : List ℕ) →
+            now ≡ filled (reported (wordAt periods) (wordAt costs) n (wordAt deadlines) (t + 1)) n old → rest ≡ 0 →
+            now ≡ filled (played (wordAt periods) (wordAt costs) n (wordAt deadlines)) n old
+        told-all deadlines old now are quiet =
+            rw add-one at are
+            ∙ filled-same (reported (wordAt periods) (wordAt costs) n (wordAt deadlines) (suc t)) (played (wordAt periods) (wordAt costs) n (wordAt deadlines)) n old
+            (λ k h. report-quiet (wordAt periods) (wordAt costs) n (wordAt deadlines) (tasks .costLow) (tasks .few) (suc t) k h
+            (omega arith) (sym rest-is ∙ quiet))
 
     -- where the latest deadline is past, too
     pub told-late : (t : ℕ) (deadlines old answers : List ℕ) → answers ≡ filled (reported (wordAt periods) (wordAt costs) n (wordAt deadlines) t) n old →

@@ -16,20 +16,13 @@ use Rattle.model.specs.Choice.{pick, both, on}
 use Rattle.model.specs.Lists.{largestTo}
 use Rattle.model.proofs.Lists.{largest-none, largest-more}
 use Rattle.machine.specs.Machine.{mask, readyAfter, raisedBy}
+use Rattle.machine.specs.Slices.{reportedIn}
 
 -- a shift of 1 makes the mask
 pub mask-is : (p : ℕ) → p < 32 → (1 * 2 ^ p) % 2 ^ 32 ≡ mask p
 mask-is p h =
     let small : 1 < 2 ^ 1 = lit< tt in
     shl-exact 1 p 32 small (omega arith) ∙ one-mul (2 ^ p)
-
--- where the last tick of work was served, the bit goes; else it stays
-pub last-served : (word place ready bit : ℕ) → 1 ≤ word → word - 1 ≡ 0 → bit ≡ mask place →
-    bitAnd ready (4294967295 - bit) ≡ readyAfter (eqb word 1) place ready
-last-served word place ready bit some none e = rw (eq-eqb word 1 (omega arith), e)
-
-pub more-left : (word place ready : ℕ) → (word - 1 ≡ 0 → ⊥) → ready ≡ readyAfter (eqb word 1) place ready
-more-left word place ready some = rw (ne-eqb word 1 (λ e. some (omega arith)))
 
 -- a word that is not changed is stored as it is
 pub stays : (words : List ℕ) (p : ℕ) → words ≡ set words p (getD words p 0)
@@ -48,17 +41,31 @@ not-raised due t place ready other = rw (ne-eqb due t other)
 pub is-raised : (due t place ready bit : ℕ) → due ≡ t → bit ≡ mask place → bitOr ready bit ≡ raisedBy (eqb due t) place ready
 is-raised due t place ready bit same e = rw (eq-eqb due t same, e)
 
--- an answer that is written, and one that is not
-module _ (answers : List ℕ) (place rest at deadline : ℕ) where
-  pub work-left : (rest ≡ 0 → ⊥) → answers ≡ set answers place (pick (both (eqb rest 0) (ltb at deadline)) (at + 1) (getD answers place 0))
-  work-left some = rw (ne-eqb rest 0 some) (stays answers place)
+-- an answer that is in time is written, and one that is late is not
+module _ (answers : List ℕ) (place at deadline : ℕ) where
+  pub too-late : deadline ≤ at → answers ≡ set answers place (pick (ltb at deadline) (at + 1) (getD answers place 0))
+  too-late past = rw (le-ltb at deadline past) (stays answers place)
 
-  pub too-late : rest ≡ 0 → deadline ≤ at → answers ≡ set answers place (pick (both (eqb rest 0) (ltb at deadline)) (at + 1) (getD answers place 0))
-  too-late none past = rw (eq-eqb rest 0 none, le-ltb at deadline past) (stays answers place)
+  pub in-time : at < deadline → set answers place (at + 1) ≡ set answers place (pick (ltb at deadline) (at + 1) (getD answers place 0))
+  in-time early = rw (lt-ltb at deadline early)
 
-  pub in-time : rest ≡ 0 → at < deadline →
-      set answers place (at + 1) ≡ set answers place (pick (both (eqb rest 0) (ltb at deadline)) (at + 1) (getD answers place 0))
-  in-time none early = rw (eq-eqb rest 0 none, lt-ltb at deadline early)
+module _ (word place ready at deadline : ℕ) (answers : List ℕ) where
+  -- where the last tick of work was served, the bit goes, and that is reported
+  pub last-served : (bit : ℕ) → 1 ≤ word → word - 1 ≡ 0 → bit ≡ mask place →
+      bitAnd ready (4294967295 - bit) ≡ readyAfter (eqb word 1) place ready
+  last-served bit some none e = rw (eq-eqb word 1 (omega arith), e)
+
+  pub last-reported : (now : List ℕ) → 1 ≤ word → word - 1 ≡ 0 →
+      now ≡ set answers place (pick (ltb at deadline) (at + 1) (getD answers place 0)) →
+      now ≡ set answers place (reportedIn word at deadline (getD answers place 0))
+  last-reported now some none e = rw (eq-eqb word 1 (omega arith)) e
+
+  -- else both stay
+  pub more-left : (word - 1 ≡ 0 → ⊥) → ready ≡ readyAfter (eqb word 1) place ready
+  more-left some = rw (ne-eqb word 1 (λ e. some (omega arith)))
+
+  pub none-reported : (word - 1 ≡ 0 → ⊥) → answers ≡ set answers place (reportedIn word at deadline (getD answers place 0))
+  none-reported some = rw (ne-eqb word 1 (λ e. some (omega arith))) (stays answers place)
 
 -- the largest of the first words, one more, and all
 module _ (word : ℕ → ℕ) where

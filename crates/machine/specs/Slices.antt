@@ -3,7 +3,9 @@
 use Prim.Native.Nat.{ℕ, _+_, _≤_, _<_}
 use mathlib.Core.Path.{_≡_}
 use mathlib.Core.List.{List}
+use lib.Dec.{eqb, ltb}
 use lib.ListN.{length, getD}
+use Rattle.model.specs.Choice.{pick, both}
 use Rattle.model.specs.Lists.{filled}
 use Rattle.machine.specs.Machine.{State, released, served, nextPlace, earliest}
 
@@ -58,3 +60,8 @@ pub record Holds (n : ℕ) (left due : List ℕ) (state : State) (leftNow dueNow
 pub record HasNext (n : ℕ) (state : State) : Type 0 where
   pub isPlace : nextPlace (state .ready) < n
   pub hasWork : 1 ≤ state .left (nextPlace (state .ready))
+
+-- what is reported at a place after a tick in which so much work was there: the tick's end, where that work was the last and the
+-- deadline is not past; else what was reported before
+abbrev pub reportedIn : (work t deadline before : ℕ) → ℕ
+reportedIn work t deadline before = pick (both (eqb work 1) (ltb t deadline)) (t + 1) before

@@ -3,10 +3,10 @@ ghost use mathlib.Core.Path.{_≡_};
 ghost use Prim.Native.Nat.{_+_, _-_, _≤_, _<_, max};
 ghost use lib.Dec.{eqb, ltb};
 ghost use lib.ListN.{length, set};
-ghost use Rattle.model.specs.Choice.{pick, both, on};
+ghost use Rattle.model.specs.Choice.{pick};
 ghost use Rattle.model.specs.Lists.{filled, largestTo};
 ghost use Rattle.machine.specs.Machine as spec;
-ghost use Rattle.machine.specs.Slices.{wordAt, TasksHeld, DeadlinesHeld, StateHeld, Holds, HasNext, releasedIn, servedIn};
+ghost use Rattle.machine.specs.Slices.{wordAt, TasksHeld, DeadlinesHeld, StateHeld, Holds, HasNext, releasedIn, servedIn, reportedIn};
 use model::Place;
 use model::Ticks;
 
@@ -28,63 +28,74 @@ fn next_place(ready: u32) -> Place
     Place(u32::trailing_zeros(ready) as usize)
 }
 
-// Takes one tick off the work left at a place, and its bit off the ready word where that was the last.
-fn serve(left: &mut [u64], place: Place, ready: u32) -> u32
-    requires { ⌜ (place .0 < 32) × (place .0 < length (now left)) × (1 ≤ wordAt (now left) (place .0)) ⌝ }
-    ensures { λ r. ⌜ now (left .exit) ≡ set (now (left .entry)) (place .0) (wordAt (now (left .entry)) (place .0) - 1) ⌝ }
-    ensures { λ r. ⌜ r ≡ spec.readyAfter (eqb (wordAt (now (left .entry)) (place .0)) 1) (place .0) ready ⌝ }
+// Writes that the first job of a place is done after tick `at`, where the deadline is not past. Up to the deadline, which is within
+// the period, there is no work but the first job's.
+fn report(deadlines: &[u32], at: Ticks, place: Place, answers: &mut [u32])
+    requires { ⌜ (place .0 < length (now deadlines)) × (place .0 < length (now answers)) × (at .0 < 1000000) ⌝ }
+    ensures { λ r. ⌜ now (answers .exit) ≡ set (now (answers .entry)) (place .0) (pick (ltb (at .0) (wordAt (now (deadlines .entry)) (place .0))) (at .0 + 1) (wordAt (now (answers .entry)) (place .0))) ⌝ }
 {
-    let at = place.0;
-    let rest = left[at] - 1;
-    left[at] = rest;
-    if rest == 0 {
-        return ready & !release::mask(place);
+    let p = place.0;
+    if deadlines[p] <= at.0 {
+        return;
     }
-    ready
+    answers[p] = at.0 + 1;
 }
 
-// One tick: releases what is due, then serves the most urgent ready task.
+// Takes one tick off the work left at a place. Where that was the last, the place's bit goes off the ready word, and that is reported.
+fn serve(
+    left: &mut [u64],
+    place: Place,
+    ready: u32,
+    deadlines: &[u32],
+    at: Ticks,
+    answers: &mut [u32],
+) -> u32
+    requires { ⌜ (place .0 < 32) × (place .0 < length (now left)) × (1 ≤ wordAt (now left) (place .0)) ⌝ }
+    requires { ⌜ (place .0 < length (now deadlines)) × (place .0 < length (now answers)) × (at .0 < 1000000) ⌝ }
+    ensures { λ r. ⌜ now (left .exit) ≡ set (now (left .entry)) (place .0) (wordAt (now (left .entry)) (place .0) - 1) ⌝ }
+    ensures { λ r. ⌜ r ≡ spec.readyAfter (eqb (wordAt (now (left .entry)) (place .0)) 1) (place .0) ready ⌝ }
+    ensures { λ r. ⌜ now (answers .exit) ≡ set (now (answers .entry)) (place .0) (reportedIn (wordAt (now (left .entry)) (place .0)) (at .0) (wordAt (now (deadlines .entry)) (place .0)) (wordAt (now (answers .entry)) (place .0))) ⌝ }
+{
+    let p = place.0;
+    let rest = left[p] - 1;
+    left[p] = rest;
+    if rest != 0 {
+        return ready;
+    }
+    report(deadlines, at, place, answers);
+    ready & !release::mask(place)
+}
+
+// One tick: releases what is due, then serves the most urgent ready task, and reports its first job where that is done.
 pub fn step(
     periods: &[u32],
     costs: &[u32],
+    deadlines: &[u32],
     n: usize,
     at: Ticks,
     left: &mut [u64],
     due: &mut [u32],
     ready: u32,
     next: Ticks,
+    answers: &mut [u32],
 ) -> Tick
     requires { ⌜ TasksHeld (now periods) (now costs) n ⌝ }
+    requires { ⌜ (n ≤ length (now deadlines)) × (n ≤ length (now answers)) × (at .0 < 1000000) ⌝ }
     requires { ⌜ StateHeld n (at .0) (now left) (now due) (next .0) ⌝ }
     requires { ⌜ HasNext n (releasedIn (now periods) (now costs) n (at .0) (now left) (now due) ready) ⌝ }
     ensures { λ r. ⌜ Holds n (now (left .entry)) (now (due .entry)) (servedIn (now (periods .entry)) (now (costs .entry)) n (at .0) (now (left .entry)) (now (due .entry)) ready) (now (left .exit)) (now (due .exit)) (r .ready) (r .next .0) ⌝ }
     ensures { λ r. ⌜ r .place .0 ≡ spec.nextPlace (releasedIn (now (periods .entry)) (now (costs .entry)) n (at .0) (now (left .entry)) (now (due .entry)) ready .ready) ⌝ }
+    ensures { λ r. ⌜ now (answers .exit) ≡ set (now (answers .entry)) (r .place .0) (reportedIn (releasedIn (now (periods .entry)) (now (costs .entry)) n (at .0) (now (left .entry)) (now (due .entry)) ready .left (r .place .0)) (at .0) (wordAt (now (deadlines .entry)) (r .place .0)) (wordAt (now (answers .entry)) (r .place .0))) ⌝ }
 {
     let released = release(periods, costs, n, at, left, due, ready, next);
     let place = next_place(released.ready);
-    let rest = serve(left, place, released.ready);
+    let rest = serve(left, place, released.ready, deadlines, at, answers);
     let again = released.next;
     Tick {
         place,
         ready: rest,
         next: again,
     }
-}
-
-// Writes that the first job of a place is done after tick `at`, where no work is left and the deadline is not past. Up to the
-// deadline, which is within the period, there is no work but the first job's.
-fn report(rest: u64, deadline: Ticks, at: Ticks, place: Place, answers: &mut [u32])
-    requires { ⌜ (place .0 < length (now answers)) × (at .0 < 1000000) ⌝ }
-    ensures { λ r. ⌜ now (answers .exit) ≡ set (now (answers .entry)) (place .0) (pick (both (eqb rest 0) (ltb (at .0) (deadline .0))) (at .0 + 1) (wordAt (now (answers .entry)) (place .0))) ⌝ }
-{
-    if rest != 0 {
-        return;
-    }
-    if deadline.0 <= at.0 {
-        return;
-    }
-    let i = place.0;
-    answers[i] = at.0 + 1;
 }
 
 // Sets the first n words to 0: no job is done yet.
@@ -134,16 +145,15 @@ pub fn play_all(periods: &[u32], costs: &[u32], deadlines: &[u32], n: usize, ans
         let tick = step(
             periods,
             costs,
+            deadlines,
             n,
             Ticks(at),
             &mut left,
             &mut due,
             ready,
             Ticks(next),
+            answers,
         );
-        let place = tick.place;
-        let p = place.0;
-        report(left[p], Ticks(deadlines[p]), Ticks(at), place, answers);
         if tick.ready == 0 {
             return;
         }

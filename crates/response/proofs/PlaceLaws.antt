@@ -25,7 +25,7 @@ use Rattle.response.specs.Verdicts.{verdictPlace, isSchedulable}
 use Rattle.response.specs.Analysis.{answerOf}
 use Rattle.response.specs.Outcome.{lateIf, lateAt, resultOf, verdictFor, verdictOf}
 
-refusal-place : (bytes : List ℕ) (answers rounds : ℕ) (r : Refusal) → Deserved bytes answers rounds r → placeOf r < 256
+pub refusal-place : (bytes : List ℕ) (answers rounds : ℕ) (r : Refusal) → Deserved bytes answers rounds r → placeOf r < 256
 refusal-place bytes answers rounds TooShort d = omega arith
 refusal-place bytes answers rounds UnknownVersion d = omega arith
 refusal-place bytes answers rounds CountOutOfRange d = omega arith

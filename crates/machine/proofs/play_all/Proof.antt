@@ -6,7 +6,7 @@ use mathlib.Core.Path.{_≡_, _∙_, sym}
 use Rattle.model.specs.Lists.{filled}
 use Rattle.machine.specs.Slices.{wordAt}
 use Rattle.machine.proofs.ReportLaws.{reported}
-use Rattle.machine.proofs.PlayLaws.{Playing, playing-none, state-held, has-next, place-fits, left-long, playing-more, told-none, told-more, told-all, told-late, told-over, told-long, limit-high}
+use Rattle.machine.proofs.PlayLaws.{Playing, playing-none, state-held, has-next, playing-more, told-none, told-more, told-all, told-late, told-over, told-long, limit-high}
 use Rattle.machine.proofs.play_all.Statement.{statement}
 use Rattle.machine.proofs.play_all.Tie as tie
 
@@ -37,77 +37,50 @@ slice-aggregate-step-2 c = sym (c .before .before .before .before .loop .inv .0 
 
 step-requires : tie.Need-step-requires Inv-loop μ-loop
 step-requires c κs =
-    let tasks = c .before .before .before .before .before .before .before .before .before .before .before .before .before .before .pre .0 in
-    let play = c .before .before .before .before .loop .inv .0 in (
+    let tasks = c .before .before .before .before .before .before .before .before .before .before .before .before .before .before .before .pre .0 in
+    let held = c .before .before .before .before .before .before .before .before .before .before .before .before .before .before .before .pre .1 .0 in
+    let room = c .before .before .before .before .before .before .before .before .before .before .before .before .before .before .before .pre .1 .1 in
+    let play = c .before .before .before .before .before .loop .inv .0 in
+    let long = told-long _ _ _ tasks _ _ _ (omega (arith, c .before .before .before .before .before .before .before .before .before .clear .kept, room)) (c .before .before .before .before .before .loop .inv .1) in (
       tasks,
-      (state-held _ _ _ tasks _ _ _ _ _ play, has-next _ _ _ tasks _ _ _ _ _ play),
-    )
-
-mul-report : tie.Need-mul-report Inv-loop μ-loop
-mul-report c =
-    let tasks = c .before .before .before .before .before .before .before .before .before .before .before .before .before .before .before .before .before .before .pre .0 in
-    let play = c .before .before .before .before .before .before .before .before .loop .inv .0 in
-    omega (arith, place-fits _ _ _ tasks _ _ _ _ _ play _ (c .before .before .before .step .ensures .1), tasks .few)
-
-array-read-report : tie.Need-array-read-report Inv-loop μ-loop
-array-read-report c =
-    let tasks = c .before .before .before .before .before .before .before .before .before .before .before .before .before .before .before .before .before .before .pre .0 in
-    let play = c .before .before .before .before .before .before .before .before .loop .inv .0 in
-    omega (arith, place-fits _ _ _ tasks _ _ _ _ _ play _ (c .before .before .before .step .ensures .1), left-long _ _ _ tasks _ _ _ _ _ play _ _ _ _ (c .before .before .before .step .ensures .0), tasks .few)
-
-mul-t30 : tie.Need-mul-t30 Inv-loop μ-loop
-mul-t30 c =
-    let tasks = c .before .before .before .before .before .before .before .before .before .before .before .before .before .before .before .before .before .before .pre .0 in
-    let play = c .before .before .before .before .before .before .before .before .loop .inv .0 in
-    omega (arith, place-fits _ _ _ tasks _ _ _ _ _ play _ (c .before .before .before .step .ensures .1), tasks .few)
-
-shared-slice-read-t32 : tie.Need-shared-slice-read-t32 Inv-loop μ-loop
-shared-slice-read-t32 c =
-    let tasks = c .before .before .before .before .before .before .before .before .before .before .before .before .before .before .before .before .before .before .before .pre .0 in
-    let play = c .before .before .before .before .before .before .before .before .before .loop .inv .0 in
-    omega (arith, place-fits _ _ _ tasks _ _ _ _ _ play _ (c .before .before .before .before .step .ensures .1), c .before .before .before .before .before .before .before .before .before .before .before .before .before .before .before .before .before .before .before .pre .1 .0 .long)
-
-report-requires : tie.Need-report-requires Inv-loop μ-loop
-report-requires c κs =
-    let tasks = c .before .before .before .before .before .before .before .before .before .before .before .before .before .before .before .before .before .before .before .before .pre .0 in
-    let play = c .before .before .before .before .before .before .before .before .before .before .loop .inv .0 in
-    let room = c .before .before .before .before .before .before .before .before .before .before .before .before .before .before .before .before .before .before .before .before .pre .1 .1 in
-    let long = told-long _ _ _ tasks _ _ _ (omega (arith, c .before .before .before .before .before .before .before .before .before .before .before .before .before .before .clear .kept, room)) (c .before .before .before .before .before .before .before .before .before .before .loop .inv .1) in (
-      omega (arith, place-fits _ _ _ tasks _ _ _ _ _ play _ (c .before .before .before .before .before .step .ensures .1), long, c .before .before .before .before .before .before .before .before .before .before .before .before .before .before .clear .kept, room),
-      omega (arith, c .before .before .before .before .before .before .before .before .if1 .taken, c .before .before .before .before .before .before .before .before .before .before .before .largest .ensures, limit-high _ _ _ tasks _ (c .before .before .before .before .before .before .before .before .before .before .before .before .before .before .before .before .before .before .before .before .pre .1 .0)),
+      (
+        (held .long, omega (arith, long, c .before .before .before .before .before .before .before .before .before .clear .kept, room), omega (arith, c .before .before .before .if1 .taken, c .before .before .before .before .before .before .largest .ensures, limit-high _ _ _ tasks _ held)),
+        (state-held _ _ _ tasks _ _ _ _ _ play, has-next _ _ _ tasks _ _ _ _ _ play),
+      ),
     )
 
 same-length : tie.Need-same-length Inv-loop μ-loop
 same-length c =
-    let tasks = c .before .before .before .before .before .before .before .before .before .before .before .before .before .before .before .before .before .before .before .before .before .before .before .before .before .pre .0 in
-    let room = c .before .before .before .before .before .before .before .before .before .before .before .before .before .before .before .before .before .before .before .before .before .before .before .before .before .pre .1 .1 in
-    let long = told-long _ _ _ tasks _ _ _ (omega (arith, c .before .before .before .before .before .before .before .before .before .before .before .before .before .before .before .before .before .before .before .clear .kept, room)) (c .before .before .before .before .before .before .before .before .before .before .before .before .before .before .before .loop .inv .1) in
-    omega (arith, c .before .before .before .before .report .kept, long, c .before .before .before .before .before .before .before .before .before .before .before .before .before .before .before .before .before .before .before .clear .kept)
+    let tasks = c .before .before .before .before .before .before .before .before .before .before .before .before .before .before .before .before .before .before .before .before .before .before .pre .0 in
+    let room = c .before .before .before .before .before .before .before .before .before .before .before .before .before .before .before .before .before .before .before .before .before .before .pre .1 .1 in
+    let long = told-long _ _ _ tasks _ _ _ (omega (arith, c .before .before .before .before .before .before .before .before .before .before .before .before .before .before .before .before .clear .kept, room)) (c .before .before .before .before .before .before .before .before .before .before .before .before .loop .inv .1) in
+    omega (arith, c .before .before .before .before .before .before .step .kept, long, c .before .before .before .before .before .before .before .before .before .before .before .before .before .before .before .before .clear .kept)
 
 returns : tie.Need-returns Inv-loop μ-loop
 returns c =
-    let tasks = c .before .before .before .before .before .before .before .before .before .before .before .before .before .before .before .before .before .before .before .before .before .before .before .before .before .pre .0 in
-    let held = c .before .before .before .before .before .before .before .before .before .before .before .before .before .before .before .before .before .before .before .before .before .before .before .before .before .pre .1 .0 in
-    let room = c .before .before .before .before .before .before .before .before .before .before .before .before .before .before .before .before .before .before .before .before .before .before .before .before .before .pre .1 .1 in
-    let play = c .before .before .before .before .before .before .before .before .before .before .before .before .before .before .before .loop .inv .0 in
-    let all = told-all _ _ _ tasks _ _ _ _ _ play _ _ _ _ (c .before .before .before .before .before .before .before .before .before .before .step .ensures .0) _ _ _ held (omega (arith, c .before .before .before .before .before .before .before .before .before .before .before .before .before .before .before .before .before .before .before .clear .kept, room)) _ (c .before .before .before .before .before .before .before .before .before .before .step .ensures .1) (c .before .before .before .before .before .before .before .before .before .before .before .before .before .before .before .loop .inv .1) _ (c .before .before .before .before .report .ensures) (c .if2 .taken) in
-    told-over _ _ _ tasks _ _ _ _ room (c .before .before .before .before .before .before .before .before .before .before .before .before .before .before .before .before .before .before .before .clear .ensures) all
+    let tasks = c .before .before .before .before .before .before .before .before .before .before .before .before .before .before .before .before .before .before .before .before .before .before .pre .0 in
+    let held = c .before .before .before .before .before .before .before .before .before .before .before .before .before .before .before .before .before .before .before .before .before .before .pre .1 .0 in
+    let room = c .before .before .before .before .before .before .before .before .before .before .before .before .before .before .before .before .before .before .before .before .before .before .pre .1 .1 in
+    let play = c .before .before .before .before .before .before .before .before .before .before .before .before .loop .inv .0 in
+    let e = c .before .before .before .before .before .before .step .ensures in
+    let more = told-more _ _ _ tasks _ _ _ _ _ play _ _ _ held (omega (arith, c .before .before .before .before .before .before .before .before .before .before .before .before .before .before .before .before .clear .kept, room)) _ (e .1 .0) (c .before .before .before .before .before .before .before .before .before .before .before .before .loop .inv .1) _ (e .1 .1) in
+    told-over _ _ _ tasks _ _ _ _ room (c .before .before .before .before .before .before .before .before .before .before .before .before .before .before .before .before .clear .ensures) (told-all _ _ _ tasks _ _ _ _ _ play _ _ _ _ (e .0) (c .before .before .before .before .before .before .before .before .before .before .before .before .before .before .before .before .before .before .before .before .before .before .args .deadlines .now) _ _ more (c .if2 .taken))
 
 add-at : tie.Need-add-at Inv-loop μ-loop
-add-at c = omega (arith, c .before .before .before .before .before .before .before .before .before .before .before .before .before .if1 .taken, c .before .before .before .before .before .before .before .before .before .before .before .before .before .before .before .before .largest .ensures, limit-high _ _ _ (c .before .before .before .before .before .before .before .before .before .before .before .before .before .before .before .before .before .before .before .before .before .before .before .before .before .pre .0) _ (c .before .before .before .before .before .before .before .before .before .before .before .before .before .before .before .before .before .before .before .before .before .before .before .before .before .pre .1 .0))
+add-at c = omega (arith, c .before .before .before .before .before .before .before .before .before .before .if1 .taken, c .before .before .before .before .before .before .before .before .before .before .before .before .before .largest .ensures, limit-high _ _ _ (c .before .before .before .before .before .before .before .before .before .before .before .before .before .before .before .before .before .before .before .before .before .before .pre .0) _ (c .before .before .before .before .before .before .before .before .before .before .before .before .before .before .before .before .before .before .before .before .before .before .pre .1 .0))
 
 loop-less : tie.Need-loop-less Inv-loop μ-loop
-loop-less c = omega (arith, c .before .before .before .before .before .before .before .before .before .before .before .before .before .if1 .taken)
+loop-less c = omega (arith, c .before .before .before .before .before .before .before .before .before .before .if1 .taken)
 
 loop-again : tie.Need-loop-again Inv-loop μ-loop
 loop-again c =
-    let tasks = c .before .before .before .before .before .before .before .before .before .before .before .before .before .before .before .before .before .before .before .before .before .before .before .before .before .pre .0 in
-    let held = c .before .before .before .before .before .before .before .before .before .before .before .before .before .before .before .before .before .before .before .before .before .before .before .before .before .pre .1 .0 in
-    let room = c .before .before .before .before .before .before .before .before .before .before .before .before .before .before .before .before .before .before .before .before .before .before .before .before .before .pre .1 .1 in
-    let play = c .before .before .before .before .before .before .before .before .before .before .before .before .before .before .before .loop .inv .0 in
-    let early = c .before .before .before .before .before .before .before .before .before .before .before .before .before .if1 .taken in (
-      playing-more _ _ _ tasks _ _ _ _ _ play _ _ _ _ (c .before .before .before .before .before .before .before .before .before .before .step .ensures .0) (omega (arith, early, c .before .before .before .before .before .before .before .before .before .before .before .before .before .before .before .before .largest .ensures, limit-high _ _ _ tasks _ held)) (c .if2 .left),
-      told-more _ _ _ tasks _ _ _ _ _ play _ _ _ _ (c .before .before .before .before .before .before .before .before .before .before .step .ensures .0) _ _ _ held (omega (arith, c .before .before .before .before .before .before .before .before .before .before .before .before .before .before .before .before .before .before .before .clear .kept, room)) _ (c .before .before .before .before .before .before .before .before .before .before .step .ensures .1) (c .before .before .before .before .before .before .before .before .before .before .before .before .before .before .before .loop .inv .1) _ (c .before .before .before .before .report .ensures),
+    let tasks = c .before .before .before .before .before .before .before .before .before .before .before .before .before .before .before .before .before .before .before .before .before .before .pre .0 in
+    let held = c .before .before .before .before .before .before .before .before .before .before .before .before .before .before .before .before .before .before .before .before .before .before .pre .1 .0 in
+    let room = c .before .before .before .before .before .before .before .before .before .before .before .before .before .before .before .before .before .before .before .before .before .before .pre .1 .1 in
+    let play = c .before .before .before .before .before .before .before .before .before .before .before .before .loop .inv .0 in
+    let e = c .before .before .before .before .before .before .step .ensures in (
+      playing-more _ _ _ tasks _ _ _ _ _ play _ _ _ _ (e .0) (omega (arith, c .before .before .before .before .before .before .before .before .before .before .if1 .taken, c .before .before .before .before .before .before .before .before .before .before .before .before .before .largest .ensures, limit-high _ _ _ tasks _ held)) (c .if2 .left),
+      told-more _ _ _ tasks _ _ _ _ _ play _ _ _ held (omega (arith, c .before .before .before .before .before .before .before .before .before .before .before .before .before .before .before .before .clear .kept, room)) _ (e .1 .0) (c .before .before .before .before .before .before .before .before .before .before .before .before .loop .inv .1) _ (e .1 .1),
     )
 
 same-length-2 : tie.Need-same-length-2 Inv-loop μ-loop
@@ -135,11 +108,6 @@ play-all-spec =
     slice-aggregate-step
     slice-aggregate-step-2
     step-requires
-    mul-report
-    array-read-report
-    mul-t30
-    shared-slice-read-t32
-    report-requires
     same-length
     returns
     add-at

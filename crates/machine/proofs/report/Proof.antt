@@ -1,15 +1,21 @@
 -- `machine::report` meets its contract: the word at the place is written, or stays.
 -- Assumes nothing.
 use borrow.Author.Needs.{needs}
-use Rattle.machine.proofs.StepLaws.{work-left, too-late, in-time}
+use Rattle.machine.specs.Slices.{wordAt}
+use Rattle.machine.proofs.StepLaws.{too-late, in-time}
 use Rattle.machine.proofs.report.Statement.{statement}
 use Rattle.machine.proofs.report.Tie as tie
 
-returns : tie.Need-returns
-returns c = work-left (c .before .args .answers .now) (c .before .args .place .0) (c .before .args .rest) (c .before .args .at .0) (c .before .args .deadline .0) (c .if1 .taken)
+mul-if1 : tie.Need-mul-if1
+mul-if1 c = search needs
 
-returns-2 : tie.Need-returns-2
-returns-2 c = too-late (c .before .before .before .before .args .answers .now) (c .before .before .before .before .args .place .0) (c .before .before .before .before .args .rest) (c .before .before .before .before .args .at .0) (c .before .before .before .before .args .deadline .0) (c .before .before .before .if1 .left) (c .if2 .taken)
+shared-slice-read-if1 : tie.Need-shared-slice-read-if1
+shared-slice-read-if1 c = search needs
+
+returns : tie.Need-returns
+returns c =
+    let a = c .before .before .before .args in
+    too-late (a .answers .now) (a .place .0) (a .at .0) (wordAt (a .deadlines .now) (a .place .0)) (c .if1 .taken)
 
 add-answers : tie.Need-add-answers
 add-answers c = search needs
@@ -23,10 +29,20 @@ slice-write-answers c = search needs
 same-length : tie.Need-same-length
 same-length c = search needs
 
-returns-3 : tie.Need-returns-3
-returns-3 c = in-time (c .before .before .before .before .before .args .answers .now) (c .before .before .before .before .before .args .place .0) (c .before .before .before .before .before .args .rest) (c .before .before .before .before .before .args .at .0) (c .before .before .before .before .before .args .deadline .0) (c .before .before .before .before .if1 .left) (c .before .if2 .left)
+returns-2 : tie.Need-returns-2
+returns-2 c =
+    let a = c .before .before .before .before .args in
+    in-time (a .answers .now) (a .place .0) (a .at .0) (wordAt (a .deadlines .now) (a .place .0)) (c .before .if1 .left)
 
 pub report-spec : {M : Type 1} → statement M
 report-spec =
     tie.close
-    (tie.spec returns returns-2 add-answers mul-answers slice-write-answers same-length returns-3)
+    (tie.spec
+    mul-if1
+    shared-slice-read-if1
+    returns
+    add-answers
+    mul-answers
+    slice-write-answers
+    same-length
+    returns-2)

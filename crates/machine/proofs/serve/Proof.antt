@@ -1,8 +1,9 @@
 -- `machine::serve` meets its contract: the bit goes with the last tick of work.
 -- Assumes nothing.
 use borrow.Author.Needs.{needs}
+use Rattle.machine.specs.Slices.{wordAt}
 use mathlib.Core.Path.{refl}
-use Rattle.machine.proofs.StepLaws.{last-served, more-left}
+use Rattle.machine.proofs.StepLaws.{last-served, last-reported, more-left, none-reported}
 use Rattle.machine.proofs.serve.Statement.{statement}
 use Rattle.machine.proofs.serve.Tie as tie
 
@@ -21,20 +22,41 @@ mul-left c = search needs
 slice-write-left : tie.Need-slice-write-left
 slice-write-left c = search needs
 
-mask-requires : tie.Need-mask-requires
-mask-requires c κs = search needs
-
 same-length : tie.Need-same-length
 same-length c = search needs
 
 returns : tie.Need-returns
-returns c = (refl, last-served _ (c .before .before .before .before .args .place .0) (c .before .before .before .before .args .ready) _ (c .before .before .before .before .pre .2) (c .before .if1 .taken) (c .mask .ensures))
+returns c =
+    let a = c .before .before .before .before .before .args in (
+      refl,
+      (
+        more-left _ (a .place .0) (a .ready) (a .at .0) (wordAt (a .deadlines .now) (a .place .0)) (a .answers .now) (c .if1 .taken),
+        none-reported _ (a .place .0) (a .ready) (a .at .0) (wordAt (a .deadlines .now) (a .place .0)) (a .answers .now) (c .if1 .taken),
+      ),
+    )
+
+report-requires : tie.Need-report-requires
+report-requires c κs = search needs
+
+mask-requires : tie.Need-mask-requires
+mask-requires c κs = search needs
 
 same-length-2 : tie.Need-same-length-2
 same-length-2 c = search needs
 
+same-length-3 : tie.Need-same-length-3
+same-length-3 c = search needs
+
 returns-2 : tie.Need-returns-2
-returns-2 c = (refl, more-left _ (c .before .before .before .args .place .0) (c .before .before .before .args .ready) (c .if1 .left))
+returns-2 c =
+    let a = c .before .before .before .before .before .before .before .before .before .before .args in
+    let some = c .before .before .before .before .before .before .before .before .before .before .pre .0 .2 in (
+      refl,
+      (
+        last-served _ (a .place .0) (a .ready) (a .at .0) (wordAt (a .deadlines .now) (a .place .0)) (a .answers .now) _ some (c .before .before .before .before .before .if1 .left) (c .mask .ensures),
+        last-reported _ (a .place .0) (a .ready) (a .at .0) (wordAt (a .deadlines .now) (a .place .0)) (a .answers .now) _ some (c .before .before .before .before .before .if1 .left) (c .before .before .before .report .ensures),
+      ),
+    )
 
 pub serve-spec : {M : Type 1} → statement M
 serve-spec =
@@ -45,8 +67,10 @@ serve-spec =
     sub-rest
     mul-left
     slice-write-left
-    mask-requires
     same-length
     returns
+    report-requires
+    mask-requires
     same-length-2
+    same-length-3
     returns-2)
