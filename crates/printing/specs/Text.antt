@@ -61,8 +61,13 @@ abbrev pub tasksText : List ℕ → List ℕ → List ℕ → List ℕ
 tasksText bytes answers rounds =
     lineWithNumber (bytesOf "tasks ") (taskCount bytes) ++ taskLines bytes answers rounds (taskCount bytes)
 
--- "and the last line is then `late 1`"
+-- the last line: "`schedulable`", or "the last line is then `late 1`"; a refusal's is the only one
+abbrev pub verdictLine : Verdict → List ℕ
+verdictLine (Refused refusal) = refusedLine refusal
+verdictLine Schedulable = bytesOf "schedulable\n"
+verdictLine (Late first) = lineWithNumber (bytesOf "late ") (first .0)
+
 abbrev pub textOf : List ℕ → Verdict → List ℕ → List ℕ → List ℕ
-textOf bytes (Refused refusal) answers rounds = refusedLine refusal
-textOf bytes Schedulable answers rounds = tasksText bytes answers rounds ++ bytesOf "schedulable\n"
-textOf bytes (Late first) answers rounds = tasksText bytes answers rounds ++ lineWithNumber (bytesOf "late ") (first .0)
+textOf bytes (Refused refusal) answers rounds = verdictLine (Refused refusal)
+textOf bytes Schedulable answers rounds = tasksText bytes answers rounds ++ verdictLine Schedulable
+textOf bytes (Late first) answers rounds = tasksText bytes answers rounds ++ verdictLine (Late first)

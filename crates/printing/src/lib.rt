@@ -4,7 +4,7 @@ ghost use Prim.Native.Nat.{_<_};
 ghost use lib.ListN.{getD};
 ghost use Rattle.tables.specs.Layout.{taskCount};
 ghost use Rattle.printing.specs.Appended.{Appended};
-ghost use Rattle.printing.specs.Text.{textOf, lineWithNumber, refusedLine, tasksText, taskLine, responseText, deadlineShown};
+ghost use Rattle.printing.specs.Text.{textOf, verdictLine, lineWithNumber, refusedLine, tasksText, taskLine, responseText, deadlineShown};
 use response::Verdict;
 use tables::HEAD_SIZE;
 use tables::RECORD_SIZE;
@@ -31,15 +31,26 @@ pub fn text(
     ensures { λ r. ⌜ Appended (now (out .entry)) at (textOf (now (table .entry)) verdict (now (answers .entry)) (now (rounds .entry))) r (now (out .exit)) ⌝ }
 {
     match verdict {
-        Verdict::Refused(refusal) => refused(out, at, refusal),
+        Verdict::Refused(_) => verdict_line(out, at, verdict),
         Verdict::Schedulable => {
             let next = tasks(out, at, table, answers, rounds);
-            append(out, next, b"schedulable\n")
+            verdict_line(out, next, verdict)
         }
-        Verdict::Late(first) => {
+        Verdict::Late(_) => {
             let next = tasks(out, at, table, answers, rounds);
-            line_with_number(out, next, b"late ", first.0 as u64)
+            verdict_line(out, next, verdict)
         }
+    }
+}
+
+// The line that says the verdict.
+pub fn verdict_line(out: &mut [u8], at: usize, verdict: Verdict) -> usize
+    ensures { λ r. ⌜ Appended (now (out .entry)) at (verdictLine verdict) r (now (out .exit)) ⌝ }
+{
+    match verdict {
+        Verdict::Refused(refusal) => refused(out, at, refusal),
+        Verdict::Schedulable => append(out, at, b"schedulable\n"),
+        Verdict::Late(first) => line_with_number(out, at, b"late ", first.0 as u64),
     }
 }
 

@@ -1,4 +1,5 @@
-// Judges every table of the file `tables` and prints each one's text, to be held to an independent reference.
+// Judges every table of the file `tables` and prints each one's text, to be held to an independent reference. Then the engine plays
+// it, and a line says with which verdict; where it takes a table and does not say and leave what the analysis does, a line says so.
 //
 // An entry of the file is two bytes with the table's length, one byte with the length of the slice to lend for answers, one byte
 // with that of the slice to lend for rounds, and the table's bytes.
@@ -7,6 +8,9 @@ ghost use mathlib.Core.Path.{_≡_};
 ghost use lib.ListN.{length};
 ghost use Rattle.printing.specs.Appended.{Appended};
 ghost use Rattle.worked.specs.Stay.{stayLine};
+
+mod playing;
+
 use libc::STDOUT_FILENO;
 use printing::append;
 use response::Verdict;
@@ -70,18 +74,20 @@ fn read_table(file: i32, number: u64, table: &mut [u8], answers_length: usize, r
     lend(number, &table[..taken], answers_length, rounds_length);
 }
 
-// Lends slices of the lengths that the entry names.
+// Lends slices of the lengths that the entry names; the engine's is as long as that for answers.
 fn lend(number: u64, table: &[u8], answers_length: usize, rounds_length: usize)
     requires { ⌜ «answers_length» < 256 ⌝ }
     requires { ⌜ «rounds_length» < 256 ⌝ }
 {
     let mut answers = filler();
     let mut rounds = filler();
+    let mut played = filler();
     judge(
         number,
         table,
         &mut answers[..answers_length],
         &mut rounds[..rounds_length],
+        &mut played[..answers_length],
     );
 }
 
@@ -93,13 +99,20 @@ fn filler() -> [u32; 256]
 }
 
 // Judges one table, and writes its text in one call.
-fn judge(number: u64, table: &[u8], answers: &mut [u32], rounds: &mut [u32]) {
+fn judge(number: u64, table: &[u8], answers: &mut [u32], rounds: &mut [u32], played: &mut [u32]) {
     let verdict = response::analyse(table, answers, rounds);
+    let heard = engine::play(table, played);
     let mut out = [0u8; printing::ROOM];
     let named = printing::line_with_number(&mut out, 0, b"table ", number);
     let told = printing::text(&mut out, named, table, verdict, answers, rounds);
     let first = first_to_stay(table, verdict);
-    let end = append_stay(&mut out, told, stay(answers, first) && stay(rounds, first));
+    let kept = append_stay(&mut out, told, stay(answers, first) && stay(rounds, first));
+    let end = playing::append_played(
+        &mut out,
+        kept,
+        heard,
+        playing::agree(verdict, heard, answers, played),
+    );
     io::write_all(STDOUT_FILENO, &out[..end]);
 }
 
@@ -113,7 +126,7 @@ fn first_to_stay(table: &[u8], verdict: Verdict) -> usize {
 }
 
 // Do the words from `first` on still hold the filler?
-fn stay(words: &[u32], first: usize) -> bool {
+pub fn stay(words: &[u32], first: usize) -> bool {
     let mut i = first;
     while i < words.len() {
         if words[i] != FILLER {

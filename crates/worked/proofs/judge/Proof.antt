@@ -1,13 +1,16 @@
 -- `worked::judge` is safe and ends: the text ends within the buffer, part by part.
 -- Assumes nothing.
+use borrow.Author.Needs.{needs}
 use native.Mathlib.Omega.{arith}
 use Rattle.printing.proofs.AppendLaws.{ends-within, part-length}
-use borrow.Author.Needs.{needs}
 use Rattle.worked.proofs.judge.Statement.{statement}
 use Rattle.worked.proofs.judge.Tie as tie
 
 analyse-requires : tie.Need-analyse-requires
 analyse-requires c κs = search needs
+
+play-requires : tie.Need-play-requires
+play-requires c κs = search needs
 
 slice-aggregate-line-with-number : tie.Need-slice-aggregate-line-with-number
 slice-aggregate-line-with-number c = search needs
@@ -39,20 +42,32 @@ stay-requires-2 c κs = search needs
 append-stay-requires : tie.Need-append-stay-requires
 append-stay-requires c κs = search needs
 
+slice-aggregate-append-played : tie.Need-slice-aggregate-append-played
+slice-aggregate-append-played c = search needs
+
+agree-requires : tie.Need-agree-requires
+agree-requires c κs = search needs
+
+append-played-requires : tie.Need-append-played-requires
+append-played-requires c κs = search needs
+
 array-share-prefix-out : tie.Need-array-share-prefix-out
-array-share-prefix-out c = ends-within (c .before .append-stay .ensures) (ends-within (c .before .before .before .before .before .before .before .before .text .ensures) (ends-within (c .before .before .before .before .before .before .before .before .before .before .before .before .before .line-with-number .ensures) (omega arith)))
+array-share-prefix-out c = ends-within (c .before .append-played .ensures) (ends-within (c .before .before .before .before .before .before .before .append-stay .ensures) (ends-within (c .before .before .before .before .before .before .before .before .before .before .before .before .before .before .text .ensures) (ends-within (c .before .before .before .before .before .before .before .before .before .before .before .before .before .before .before .before .before .before .before .line-with-number .ensures) (omega arith))))
 
 slice-aggregate-write-all : tie.Need-slice-aggregate-write-all
-slice-aggregate-write-all c = part-length _ (c .before .before .append-stay .last .0) (ends-within (c .before .before .append-stay .ensures) (ends-within (c .before .before .before .before .before .before .before .before .before .text .ensures) (ends-within (c .before .before .before .before .before .before .before .before .before .before .before .before .before .before .line-with-number .ensures) (omega arith))))
+slice-aggregate-write-all c = part-length _ (c .before .before .append-played .last .0) (ends-within (c .before .before .append-played .ensures) (ends-within (c .before .before .before .before .before .before .before .before .append-stay .ensures) (ends-within (c .before .before .before .before .before .before .before .before .before .before .before .before .before .before .before .text .ensures) (ends-within (c .before .before .before .before .before .before .before .before .before .before .before .before .before .before .before .before .before .before .before .before .line-with-number .ensures) (omega arith)))))
 
 write-all-requires : tie.Need-write-all-requires
 write-all-requires c κs = search needs
 
 same-length : tie.Need-same-length
-same-length c = search needs
+same-length c = omega (arith, c .before .before .before .before .before .before .before .before .before .before .before .before .before .before .before .before .before .before .before .before .before .before .before .before .before .before .before .before .before .before .before .before .analyse .kept)
 
 same-length-2 : tie.Need-same-length-2
-same-length-2 c = search needs
+same-length-2 c = omega (arith, c .before .before .before .before .before .before .before .before .before .before .before .before .before .before .before .before .before .before .before .before .before .before .before .before .before .before .before .before .before .before .before .before .analyse .kept)
+
+same-length-3 : tie.Need-same-length-3
+same-length-3 c = search needs
 
 returns : tie.Need-returns
 returns c = search needs
@@ -62,6 +77,7 @@ judge-spec =
     tie.close
     (tie.spec
     analyse-requires
+    play-requires
     slice-aggregate-line-with-number
     slice-aggregate-line-with-number-2
     line-with-number-requires
@@ -72,9 +88,13 @@ judge-spec =
     stay-requires
     stay-requires-2
     append-stay-requires
+    slice-aggregate-append-played
+    agree-requires
+    append-played-requires
     array-share-prefix-out
     slice-aggregate-write-all
     write-all-requires
     same-length
     same-length-2
+    same-length-3
     returns)

@@ -1,8 +1,8 @@
 -- `worked::lend` is safe and ends: the parts lent lie within the words.
 -- Assumes nothing.
+use borrow.Author.Needs.{needs}
 use native.Mathlib.Omega.{arith}
 use Rattle.printing.proofs.AppendLaws.{part-length}
-use borrow.Author.Needs.{needs}
 use Rattle.worked.proofs.lend.Statement.{statement}
 use Rattle.worked.proofs.lend.Tie as tie
 
@@ -12,17 +12,26 @@ filler-requires c κs = search needs
 filler-requires-2 : tie.Need-filler-requires-2
 filler-requires-2 c κs = search needs
 
+filler-requires-3 : tie.Need-filler-requires-3
+filler-requires-3 c κs = search needs
+
 array-borrow-prefix-answers : tie.Need-array-borrow-prefix-answers
 array-borrow-prefix-answers c = search needs
 
 slice-aggregate-judge : tie.Need-slice-aggregate-judge
-slice-aggregate-judge c = part-length _ (c .before .before .filler .result) (omega (arith, c .before .before .filler .ensures))
+slice-aggregate-judge c = part-length _ (c .before .before .before .filler .result) (omega (arith, c .before .before .before .filler .ensures))
 
 array-borrow-prefix-rounds : tie.Need-array-borrow-prefix-rounds
 array-borrow-prefix-rounds c = search needs
 
 slice-aggregate-judge-2 : tie.Need-slice-aggregate-judge-2
-slice-aggregate-judge-2 c = part-length _ (c .before .before .filler2 .result) (omega (arith, c .before .before .filler2 .ensures))
+slice-aggregate-judge-2 c = part-length _ (c .before .before .before .filler2 .result) (omega (arith, c .before .before .before .filler2 .ensures))
+
+array-borrow-prefix-played : tie.Need-array-borrow-prefix-played
+array-borrow-prefix-played c = search needs
+
+slice-aggregate-judge-3 : tie.Need-slice-aggregate-judge-3
+slice-aggregate-judge-3 c = part-length _ (c .before .before .before .filler3 .result) (omega (arith, c .before .before .before .filler3 .ensures))
 
 judge-requires : tie.Need-judge-requires
 judge-requires c κs = search needs
@@ -36,9 +45,12 @@ lend-spec =
     (tie.spec
     filler-requires
     filler-requires-2
+    filler-requires-3
     array-borrow-prefix-answers
     slice-aggregate-judge
     array-borrow-prefix-rounds
     slice-aggregate-judge-2
+    array-borrow-prefix-played
+    slice-aggregate-judge-3
     judge-requires
     returns)

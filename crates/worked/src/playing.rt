@@ -1,0 +1,58 @@
+// The engine's side of an entry: its verdict, and whether it agrees with the analysis.
+ghost use Rattle.printing.specs.Appended.{Appended};
+ghost use Rattle.worked.specs.Played.{playedText};
+use printing::append;
+use response::Verdict;
+use response::code;
+use response::place;
+
+fn is_refused(verdict: Verdict) -> bool {
+    match verdict {
+        Verdict::Refused(_) => true,
+        Verdict::Schedulable => false,
+        Verdict::Late(_) => false,
+    }
+}
+
+// Are these the same words?
+fn same(one: &[u32], other: &[u32]) -> bool {
+    if one.len() != other.len() {
+        return false;
+    }
+    for i in 0..one.len() {
+        if one[i] != other[i] {
+            return false;
+        }
+    }
+    true
+}
+
+// A refusal of the engine leaves every word as it was; where neither refuses, both say the same, and leave the same words. (The
+// analysis alone refuses where there is no room for rounds.)
+pub fn agree(verdict: Verdict, heard: Verdict, answers: &[u32], played: &[u32]) -> bool {
+    if is_refused(heard) {
+        return crate::stay(played, 0);
+    }
+    if is_refused(verdict) {
+        return true;
+    }
+    if code(verdict) != code(heard) {
+        return false;
+    }
+    if place(verdict) != place(heard) {
+        return false;
+    }
+    same(answers, played)
+}
+
+// Appends the engine's line, and one more where it does not agree.
+pub fn append_played(out: &mut [u8], at: usize, heard: Verdict, agreed: bool) -> usize
+    ensures { λ r. ⌜ Appended (now (out .entry)) at (playedText heard agreed) r (now (out .exit)) ⌝ }
+{
+    let named = append(out, at, b"engine ");
+    let told = printing::verdict_line(out, named, heard);
+    if agreed {
+        return told;
+    }
+    append(out, told, b"differs\n")
+}
