@@ -1,9 +1,11 @@
 #!/usr/bin/env python3
-"""A second opinion on task tables, written from document 01 alone.
+"""A second opinion on task tables, written from document 01 and its changes alone.
 
 It shares no code and no idea of a quick way with the library: it reads the bytes
 as document 01 lays them out, looks for each task's answer by search, and plays
-runs tick by tick. Sentences in double quotation marks are document 01's.
+runs tick by tick. The engine of document 02, L1, is played from event to event, and
+knows nothing of the equation. Sentences in double quotation marks are document 01's,
+or L1's where the engine is spoken of.
 
 Needs Python 3.7 or later and nothing else.
 """
@@ -235,9 +237,9 @@ def task_line(place, task, outcome):
     return "%d %s deadline %d rounds %d" % (place, word, task.deadline, outcome.rounds)
 
 
-def verdict_line(outcomes):
+def verdict_line(responses):
     # Document 01: "schedulable" or "late" with the first place whose answer is 0.
-    late_places = [place for place, outcome in enumerate(outcomes) if outcome.response == 0]
+    late_places = [place for place, response in enumerate(responses) if response == 0]
     return "late %d" % late_places[0] if late_places else "schedulable"
 
 
@@ -251,7 +253,7 @@ def text_of(data, answers_length=MOST_TASKS, rounds_length=MOST_TASKS):
     lines = ["tasks %d" % len(tasks)]
     lines += [task_line(place, task, outcome)
               for place, (task, outcome) in enumerate(zip(tasks, outcomes))]
-    lines.append(verdict_line(outcomes))
+    lines.append(verdict_line([outcome.response for outcome in outcomes]))
     return "".join(line + "\n" for line in lines)
 
 
@@ -992,6 +994,137 @@ def made_entries(generator):
     yield from slice_entries()
 
 
+# ---------------------------------------------------------------------------
+# Made tables for the engine: no jitter and no rows, or only just
+# ---------------------------------------------------------------------------
+
+def without_jitter(tasks):
+    return [task._replace(jitter=0) for task in tasks]
+
+
+def plain_tasks(generator, count, scale):
+    """Tasks without jitter that need no more than MOST_LOADS loads without rows."""
+    while True:
+        tasks = without_jitter(made_tasks(generator, count, scale))
+        if loads_of(tasks, []) <= MOST_LOADS:
+            return tasks
+
+
+def plain_size_entries(generator):
+    """Every n from 1 to 32, once schedulable and once late."""
+    for count in range(1, MOST_TASKS + 1):
+        for wanted in (True, False):
+            tasks = plain_tasks(generator, count, 15 * count)
+            while is_schedulable(tasks, []) != wanted:
+                tasks = plain_tasks(generator, count, 15 * count)
+            yield answered_entry(generator, tasks, [])
+
+
+def overloaded_entries(generator, how_many):
+    """More work than ticks: some costs are above the periods, and jobs queue without end."""
+    for _ in range(how_many):
+        tasks = plain_tasks(generator, generator.between(2, 8), generator.pick([6, 30, 200]))
+        for place in generator.sample(range(len(tasks)), generator.between(1, 2)):
+            period = tasks[place].period
+            tasks[place] = tasks[place]._replace(cost=generator.between(period, 2 * period + 1))
+        yield made_entry(generator, tasks, [])
+
+
+def queue_entries(generator, how_many):
+    """A long job above short periods: late jobs queue, and must be worked off before the last
+    task's first job is done, which may be in time. Dropped late jobs would show there."""
+    while how_many:
+        long = (500, generator.between(30, 90), 500)
+        short = [(period, generator.between(1, max(1, period // 4)), period)
+                 for period in generator.sample(range(4, 30), generator.between(1, 4))]
+        last = [(1000, generator.between(1, 20), 1000)] * generator.between(1, 2)
+        tasks = listed(long, *(short + last))
+        if outcomes_of(tasks, [])[-1].response and loads_of(tasks, []) <= MOST_LOADS:
+            how_many -= 1
+            yield answered_entry(generator, tasks, [])
+
+
+def first_end_entries(generator, how_many):
+    """The first jobs end exactly at their deadlines; then one of them one tick after it."""
+    while how_many:
+        tasks = plain_tasks(generator, generator.between(1, 6), generator.pick([12, 40, 300]))
+        for place, task in enumerate(tasks):
+            relaxed = task._replace(deadline=task.period)
+            response = outcome_of(relaxed, tasks, []).response
+            tasks[place] = task._replace(deadline=response or task.period)
+        late = generator.below(len(tasks))
+        if tasks[late].deadline > 1 and is_schedulable(tasks, []):
+            how_many -= 1
+            yield answered_entry(generator, tasks, [])
+            tasks[late] = tasks[late]._replace(deadline=tasks[late].deadline - 1)
+            yield answered_entry(generator, tasks, [])
+
+
+def every_tick_tables():
+    """T = 1, at every place: released in every tick, alone and with others."""
+    for entries in (((1, 2, 1),), ((1, 1000000, 1),), ((1, 1, 1), (1, 1, 1)),
+                    ((1, 1, 1), (40, 1, 40)), ((1, 2, 1), (40, 1, 40), (30, 1, 30)),
+                    ((40, 1, 40), (1, 1, 1)), ((40, 39, 40), (1, 1, 1), (50, 1, 50)),
+                    ((40, 1, 40), (50, 2, 50), (1, 1, 1)), ((2, 1, 2), (1, 1, 1), (40, 1, 40))):
+        yield Draft(listed(*entries)).data()
+    yield Draft(listed(*[(1, 1, 1)] * MOST_TASKS)).data()
+    yield Draft(listed(*([(1, 1, 1)] * (MOST_TASKS - 1) + [(2000, 1, 2000)]))).data()
+    # The last of 32 tasks is served last, and in time; then one tick late.
+    for deadline in (MOST_TASKS, MOST_TASKS - 1):
+        last = [(100, 1, deadline)]
+        yield Draft(listed(*([(100, 1, 100)] * (MOST_TASKS - 1) + last))).data()
+    # 1,000,000 ticks in one job, and one tick more.
+    yield Draft(listed((1000000, 1000000, 1000000))).data()
+    yield Draft(listed((1000000, 999999, 1000000), (1000000, 1, 1000000))).data()
+    yield Draft(listed((1000000, 999999, 1000000), (1000000, 2, 1000000))).data()
+
+
+def slice_pairs(count):
+    """n and n - 1 words for answers, with short and long slices for rounds."""
+    for answers_length in (0, count - 1, count, count + 1, LONGEST_SLICE):
+        for rounds_length in (0, count - 1, count, LONGEST_SLICE):
+            yield answers_length, rounds_length
+
+
+def unplayable_drafts():
+    """Jitter in the last task alone, in the first alone, rows alone, and both; and faults of
+    rows, which come before 9."""
+    entries = [(100, 2, 100), (90, 3, 80), (80, 4, 80)]
+    for jittered in (2, 0):
+        draft = Draft(listed(*entries))
+        draft.change_task(jittered, jitter=1)
+        yield draft
+    yield Draft(listed(*entries), listed_rows((2, 16, 4)))
+    draft = Draft(listed(*entries), listed_rows((0, 1, 1), (1, 1, 1)))
+    draft.change_task(1, jitter=GREATEST_TICKS)
+    yield draft
+    draft = Draft(listed(*entries), listed_rows((2, 16, 5)))
+    yield draft
+    whole = listed(*[(1000, 1, 1000)] * MOST_TASKS)
+    draft = Draft(whole)
+    draft.change_task(MOST_TASKS - 1, jitter=1)
+    yield draft
+    yield Draft(whole, [Row(place, 1 + half, 1) for place in range(MOST_TASKS)
+                        for half in range(2)])
+
+
+def engine_slice_entries():
+    plain = Draft(listed(*[(1000, 1, 1000)] * MOST_TASKS))
+    for draft in [Draft(listed(*FIFTH[:2])), plain] + list(unplayable_drafts()):
+        for lengths in slice_pairs(len(draft.tasks)):
+            yield Entry(draft.data(), *lengths)
+
+
+def engine_entries(generator):
+    yield from plain_size_entries(generator)
+    yield from overloaded_entries(generator, 80)
+    yield from queue_entries(generator, 60)
+    yield from first_end_entries(generator, 50)
+    for data in every_tick_tables():
+        yield exact_entry(data)
+    yield from engine_slice_entries()
+
+
 SEED = 20240101
 
 
@@ -1004,6 +1137,7 @@ def all_entries():
     for data in source_tables():
         yield exact_entry(data)
     yield from made_entries(Generator(SEED))
+    yield from engine_entries(Generator(SEED + 3))
 
 
 def entry_bytes(entry):
@@ -1013,7 +1147,7 @@ def entry_bytes(entry):
 
 
 def entry_text(number, entry):
-    return "table %d\n%sstayed\n" % (number, text_of(*entry))
+    return "table %d\n%sstayed\nengine %s\n" % (number, text_of(*entry), engine_line(entry))
 
 
 # ---------------------------------------------------------------------------
@@ -1084,6 +1218,92 @@ def first_finish(tasks, place, ticks):
     """When the first job of a task is finished in the run released together, or None."""
     jobs = together(tasks, ticks)
     return play(len(tasks), jobs, ticks)[jobs.index(Job(place, 0, tasks[place].cost))]
+
+
+# ---------------------------------------------------------------------------
+# The engine: the run released together, played from event to event
+# ---------------------------------------------------------------------------
+
+def read_playable(entry):
+    """The tasks of an entry that the engine takes; it has one slice, lent as that for answers."""
+    tasks, rows = read_table(entry.table, entry.answers_length, entry.answers_length)
+    # "Any nonzero jitter or delay, or any row, gets a new refusal 9, after 8, place 0".
+    refuse_when(rows or any(task.jitter for task in tasks), 9)
+    return tasks
+
+
+Stretch = collections.namedtuple("Stretch", "place release end finished")
+
+
+def stretches(tasks, last):
+    # "releases all tasks at tick 0 and then every T, runs each at full cost".
+    #
+    # Within a stretch one job is served: the oldest of the most urgent task that has any. Nothing
+    # can change that before it ends or a more urgent task is released, so the playing jumps to
+    # whichever comes first, and needs a step for each of these events and not for each tick. A
+    # release of the same task or of a less urgent one only makes its queue longer.
+    #
+    # It ends at the last tick, or where no task has work.
+    at = 0
+    oldest = [0] * len(tasks)  # the release of each task's oldest unfinished job
+    left = [task.cost for task in tasks]  # what that job still needs
+    while at < last:
+        end = last
+        for place, release in enumerate(oldest):
+            if release <= at:
+                break
+            end = min(end, release)
+        else:
+            return
+        finished = at + left[place] <= end
+        if finished:
+            end = at + left[place]
+            left[place] = tasks[place].cost
+            oldest[place] += tasks[place].period
+        else:
+            left[place] -= end - at
+        yield Stretch(place, release, end, finished)
+        at = end
+
+
+def latest_deadline(tasks):
+    return max(task.deadline for task in tasks)
+
+
+def played_answers(tasks):
+    # "up to the deadline of the task asked about, and reports when its first job is done"; 0 where
+    # it is not done by then. One playing serves all tasks: it goes on while a first job is left.
+    answers = [0] * len(tasks)
+    awaited = len(tasks)
+    for stretch in stretches(tasks, latest_deadline(tasks)):
+        if stretch.finished and stretch.release == 0:
+            if stretch.end <= tasks[stretch.place].deadline:
+                answers[stretch.place] = stretch.end
+            awaited -= 1
+            if awaited == 0:
+                break
+    return answers
+
+
+def ticks_played(tasks):
+    """How many ticks there are up to the latest deadline, or up to where all that was released
+    before is done."""
+    last = latest_deadline(tasks)
+    oldest = [0] * len(tasks)
+    for stretch in stretches(tasks, last):
+        if stretch.finished:
+            oldest[stretch.place] += tasks[stretch.place].period
+            if all(release >= stretch.end for release in oldest):
+                return stretch.end
+    return last
+
+
+def engine_line(entry):
+    try:
+        tasks = read_playable(entry)
+    except Refused as refusal:
+        return str(refusal)
+    return verdict_line(played_answers(tasks))
 
 
 # ---------------------------------------------------------------------------
@@ -1197,10 +1417,60 @@ def check_runs(checks):
     generator = Generator(SEED + 2)
     for _ in range(700):
         count = generator.between(1, 4)
-        tasks = [task._replace(jitter=0)
-                 for task in made_tasks(generator, count, generator.pick([4, 8, 15, 30]))]
+        tasks = without_jitter(made_tasks(generator, count, generator.pick([4, 8, 15, 30])))
         check_random_runs(checks, generator, tasks)
         check_run_together(checks, tasks)
+
+
+def check_event_playing(checks):
+    """The jumps from event to event change nothing: a playing tick by tick gives the same."""
+    generator = Generator(SEED + 4)
+    for _ in range(600):
+        count = generator.between(1, 6)
+        tasks = without_jitter(made_tasks(generator, count, generator.pick([1, 4, 12, 40, 90])))
+        if generator.chance(1, 3):
+            tasks = [task._replace(cost=generator.between(1, 2 * task.period)) for task in tasks]
+        last = latest_deadline(tasks)
+        jobs = together(tasks, last)
+        ends = play(count, jobs, last)
+        firsts = [ends[jobs.index(Job(place, 0, task.cost))] for place, task in enumerate(tasks)]
+        answers = [end if end is not None and end <= task.deadline else 0
+                   for end, task in zip(firsts, tasks)]
+        checks.same(played_answers(tasks), answers, "events of %r" % (tasks,))
+        idle = [tick for tick in range(1, last + 1)
+                if all(end is not None and end <= tick
+                       for end, job in zip(ends, jobs) if job.release < tick)]
+        checks.same(ticks_played(tasks), min(idle, default=last), "ticks of %r" % (tasks,))
+
+
+def check_engine_edges(checks):
+    """Refusals 8 and 9 of the engine; its one slice alone counts."""
+    plain, jittered, sections = WORKED_TABLES[4], WORKED_TABLES[10], WORKED_TABLES[12]
+    for table, lengths, wanted in (
+            (plain, (3, 0), "schedulable"),
+            (plain, (2, 40), "refused 8 at 0"),
+            (jittered, (2, 0), "refused 9 at 0"),
+            (jittered, (1, 2), "refused 8 at 0"),
+            (sections, (4, 3), "refused 9 at 0"),
+            (sections, (3, 4), "refused 8 at 0"),
+            (WORKED_TABLES[7], (40, 0), "late 2")):
+        entry = Entry(Draft(table.tasks, table.rows).data(), *lengths)
+        checks.same(engine_line(entry), wanted, "engine with slices of %d and %d" % lengths)
+
+
+def check_engine(checks):
+    """Wherever the engine takes a table, its answers are the equation's. Gives how many it takes,
+    and of how many entries."""
+    taken = number = 0
+    for number, entry in enumerate(all_entries(), 1):
+        try:
+            tasks = read_playable(entry)
+        except Refused:
+            continue
+        taken += 1
+        responses = [outcome.response for outcome in outcomes_of(tasks, [])]
+        checks.same(played_answers(tasks), responses, "engine on entry %d" % (number - 1))
+    return taken, number
 
 
 LONGEST_PLAIN_DEADLINE = 3000
@@ -1352,9 +1622,12 @@ def command_check(_arguments):
     check_faults(checks)
     check_entries(checks)
     check_runs(checks)
+    check_event_playing(checks)
+    check_engine_edges(checks)
+    taken = check_engine(checks)
     if checks.failed:
         sys.exit("reference: %d of %d checks failed" % (checks.failed, checks.done))
-    print("reference: %d checks" % checks.done)
+    print("reference: %d checks; the engine takes %d of %d tables" % ((checks.done,) + taken))
 
 
 def command_classes(arguments):
@@ -1371,8 +1644,11 @@ words of the slice lent for answers; 1 byte with that of the slice lent for roun
 table's bytes. Both slices are lent filled with the word %d (0x%X).
 
 "expected" holds for each entry K, counted from 0, a line "table K", the program's text for it,
-and a line "stayed". (A program under test prints "changed" there if a word past n, or any word
-on a refusal, is no longer the filler.)
+a line "stayed", and a line "engine" with the engine's verdict or refusal; the engine is lent a
+slice of as many words as that for answers. (A program under test prints "changed" instead of
+"stayed" if a word past n, or any word on a refusal, is no longer the filler; and a further line
+"differs" if the engine's answers are not the analysis's, or "changed" if it changed a word that
+must stay.)
 """ % (FILLER, FILLER)
 
 CLASSES_HELP = """writes one table for each class that is measured, FOLDER/NAME.table, and prints
