@@ -1,4 +1,5 @@
-/* plain.h: the analysis of document 01 in plain C, to test and to measure against. */
+/* plain.h: the analysis of document 01 and the engine of document 02, L1, in plain C, to test and
+ * to measure against. */
 #ifndef PLAIN_H
 #define PLAIN_H
 
@@ -10,5 +11,9 @@
 uint64_t plain_analyse(const uint8_t *table, size_t table_len,
                        uint32_t *answers, size_t answers_len,
                        uint32_t *rounds, size_t rounds_len);
+
+/* The engine; the verdict is packed in the same way, and 9 is a refusal too. */
+uint64_t plain_play(const uint8_t *table, size_t table_len,
+                    uint32_t *answers, size_t answers_len);
 
 #endif

@@ -3,7 +3,7 @@
  * The analysis takes the bytes of one task table and two lent slices of 32-bit words. It fills
  * in each task's longest response time and the rounds spent on it, and says whether every task
  * meets its deadline. It covers one processor, preemptive fixed priorities, whole ticks and
- * sporadic tasks.
+ * sporadic tasks. The engine of document 02, L1, comes to the same answers by playing.
  */
 #ifndef ULMERASCIO_H
 #define ULMERASCIO_H
@@ -31,7 +31,9 @@ enum ulmerascio_refusal_number {
     ULMERASCIO_REFUSED_PRIORITY = 6, /* priority 0, or not below the record before; place of the
                                       * task */
     ULMERASCIO_REFUSED_ROW = 7,      /* a section row breaks a rule; place of the row */
-    ULMERASCIO_REFUSED_SLICES = 8    /* a slice has fewer than n words; place 0 */
+    ULMERASCIO_REFUSED_SLICES = 8,   /* a slice has fewer than n words; place 0 */
+    ULMERASCIO_REFUSED_NOT_PLAYABLE = 9 /* given by ulmerascio_play alone: some jitter is not 0,
+                                      * or there is a row; place 0 */
 };
 
 /* Analyses the table of table_len bytes at table.
@@ -59,6 +61,26 @@ uint64_t ulmerascio_analyse(const uint8_t *table, size_t table_len,
                             uint32_t *answers, size_t answers_len,
                             uint32_t *rounds, size_t rounds_len);
 
+/* Plays the table of table_len bytes at table: a second way to the answers of
+ * ulmerascio_analyse, which solves no equation and so can be held against it. All tasks are
+ * released at tick 0 and then every T, each job takes its full cost, and tick after tick the
+ * most urgent task that has work is served; late jobs queue.
+ *
+ * Refusals 1 to 8 are as above, 8 for its one slice; then a table with any jitter or row is
+ * refused with 9. The verdict is packed as above, with codes 1 to 9 for a refusal.
+ *
+ * If the table is not refused, words 0 to n - 1 of answers get the number of ticks from 0 to the
+ * end of each task's first job, 0 where that is past its deadline; later words stay. Verdict and
+ * answers are then those of ulmerascio_analyse. If the table is refused, no word is changed.
+ *
+ * A call takes longer the longer the deadlines are: it plays up to the latest deadline, at most
+ * 1,000,000 ticks, or up to the first tick at which no work is left.
+ *
+ * What is said above of lengths and pointers holds here too.
+ */
+uint64_t ulmerascio_play(const uint8_t *table, size_t table_len,
+                         uint32_t *answers, size_t answers_len);
+
 /* 1 if every task meets its deadline, else 0. */
 static inline int ulmerascio_is_schedulable(uint64_t verdict)
 {
@@ -74,10 +96,10 @@ static inline int ulmerascio_is_late(uint64_t verdict)
 /* 1 if the table was refused, else 0. */
 static inline int ulmerascio_is_refused(uint64_t verdict)
 {
-    return verdict >> 32 >= 1 && verdict >> 32 <= 8;
+    return verdict >> 32 >= 1 && verdict >> 32 <= 9;
 }
 
-/* The number of the refusal, 1 to 8, or 0 if the table was not refused. */
+/* The number of the refusal, 1 to 9, or 0 if the table was not refused. */
 static inline int ulmerascio_refusal(uint64_t verdict)
 {
     return ulmerascio_is_refused(verdict) ? (int)(verdict >> 32) : 0;

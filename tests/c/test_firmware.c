@@ -1,6 +1,6 @@
 /* test_firmware TABLES: calls the library through its C header and compares it, word by word,
- * with the plain C analysis (bench/plain.c) on every entry of a file that
- * "tests/reference.py make" wrote. */
+ * with the plain C analysis and the plain C engine (bench/plain.c) on every entry of a file that
+ * "tests/reference.py make" wrote; and the engine with the analysis. */
 #include <stdio.h>
 #include <stdlib.h>
 #include <string.h>
@@ -20,6 +20,7 @@ enum {
 static const uint32_t filler = 0xA5A5A5A5u;
 
 typedef uint64_t analysis(const uint8_t *, size_t, uint32_t *, size_t, uint32_t *, size_t);
+typedef uint64_t engine(const uint8_t *, size_t, uint32_t *, size_t);
 
 struct table {
     const uint8_t *bytes;
@@ -32,7 +33,7 @@ struct outcome {
     uint32_t rounds[GUARD + LONGEST_SLICE + GUARD];
 };
 
-static unsigned long calls;
+static unsigned long calls, plays, taken;
 
 static void call(analysis *analyse, struct table table, size_t answers_len, size_t rounds_len,
                  struct outcome *outcome)
@@ -69,7 +70,7 @@ static void check_stayed(const char *slice, const uint32_t *words, size_t writte
 static int helpers_agree(uint64_t verdict)
 {
     uint64_t code = verdict / 4294967296u, place = verdict % 4294967296u;
-    int refused = code >= 1 && code <= 8;
+    int refused = code >= 1 && code <= 9;
 
     return ulmerascio_is_schedulable(verdict) == (code == 0)
         && ulmerascio_is_late(verdict) == (code == 255)
@@ -77,6 +78,14 @@ static int helpers_agree(uint64_t verdict)
         && ulmerascio_refusal(verdict) == (refused ? (int)code : 0)
         && ulmerascio_place(verdict) == place
         && (code == 0 || code == 255 || refused);
+}
+
+static void check_helpers(uint64_t verdict)
+{
+    if (!helpers_agree(verdict)) {
+        printf("c: the header takes verdict %llx apart wrongly\n", (unsigned long long)verdict);
+        exit(1);
+    }
 }
 
 /* Calls both analyses; gives the plain one's outcome. */
@@ -98,16 +107,62 @@ static struct outcome compare(const char *what, size_t number, struct table tabl
         compare_slice("rounds", ours.rounds, plain.rounds);
         exit(1);
     }
-    if (!helpers_agree(ours.verdict)) {
-        printf("c: the header takes verdict %llx apart wrongly\n",
-               (unsigned long long)ours.verdict);
-        exit(1);
-    }
+    check_helpers(ours.verdict);
     written = ulmerascio_is_refused(ours.verdict) ? 0 : table.bytes[3];
     check_stayed("answers", ours.answers, written);
     check_stayed("rounds", ours.rounds, written);
     calls++;
     return plain;
+}
+
+struct played {
+    uint64_t verdict;
+    uint32_t answers[GUARD + LONGEST_SLICE + GUARD];
+};
+
+static void call_engine(engine *play, struct table table, size_t answers_len,
+                        struct played *played)
+{
+    for (size_t i = 0; i < GUARD + LONGEST_SLICE + GUARD; i++)
+        played->answers[i] = filler;
+    played->verdict = play(table.bytes, table.length, played->answers + GUARD, answers_len);
+}
+
+static void fail_play(const char *what, size_t number, size_t answers_len, uint64_t ours,
+                      const char *other, uint64_t wanted)
+{
+    printf("c: %s %lu played with a slice of %lu words: verdict %llx, %s %llx\n", what,
+           (unsigned long)number, (unsigned long)answers_len, (unsigned long long)ours, other,
+           (unsigned long long)wanted);
+}
+
+/* Calls both engines, and our analysis where they take the table. */
+static void compare_play(const char *what, size_t number, struct table table, size_t answers_len)
+{
+    struct played ours, plain;
+    struct outcome analysed;
+
+    call_engine(ulmerascio_play, table, answers_len, &ours);
+    call_engine(plain_play, table, answers_len, &plain);
+    if (ours.verdict != plain.verdict || memcmp(ours.answers, plain.answers, sizeof ours.answers)) {
+        fail_play(what, number, answers_len, ours.verdict, "plain", plain.verdict);
+        compare_slice("answers", ours.answers, plain.answers);
+        exit(1);
+    }
+    check_helpers(ours.verdict);
+    check_stayed("answers", ours.answers,
+                 ulmerascio_is_refused(ours.verdict) ? 0 : table.bytes[3]);
+    plays++;
+    if (ulmerascio_is_refused(ours.verdict))
+        return;
+    taken++;
+    call(ulmerascio_analyse, table, answers_len, LONGEST_SLICE, &analysed);
+    if (ours.verdict != analysed.verdict
+        || memcmp(ours.answers, analysed.answers, sizeof ours.answers)) {
+        fail_play(what, number, answers_len, ours.verdict, "the analysis", analysed.verdict);
+        compare_slice("answers", ours.answers, analysed.answers);
+        exit(1);
+    }
 }
 
 static uint8_t *read_file(const char *name, size_t *length)
@@ -146,6 +201,8 @@ static void try_slice_lengths(size_t number, struct table table, const struct ou
     for (size_t answers_len = 0; answers_len <= last; answers_len++)
         for (size_t rounds_len = 0; rounds_len <= last; rounds_len++)
             compare("worked table", number, table, answers_len, rounds_len);
+    for (size_t answers_len = 0; answers_len <= LONGEST_SLICE; answers_len++)
+        compare_play("worked table", number, table, answers_len);
 }
 
 /* A lent length that a 16-bit word cuts to the stated one is still not equal to it. */
@@ -160,6 +217,7 @@ static void try_far_too_long(size_t number, struct table table)
     }
     memcpy(bytes, table.bytes, table.length);
     compare("table longer by 65536", number, (struct table){bytes, length}, 32, 32);
+    compare_play("table longer by 65536", number, (struct table){bytes, length}, 32);
     free(bytes);
 }
 
@@ -194,6 +252,7 @@ int main(int count, char **words)
         table.bytes = data + at;
         at += table.length;
         outcome = compare("entry", number, table, answers_len, rounds_len);
+        compare_play("entry", number, table, answers_len);
         if (number < WORKED_TABLES)
             try_slice_lengths(number, table, &outcome);
         if (number == FIFTH_TABLE)
@@ -204,6 +263,6 @@ int main(int count, char **words)
         return 1;
     }
     free(data);
-    printf("c: %lu calls agree\n", calls);
+    printf("c: %lu calls agree; %lu plays, %lu of them not refused\n", calls, plays, taken);
     return 0;
 }

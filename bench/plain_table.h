@@ -1,0 +1,112 @@
+/* plain_table.h: reading a table in plain C, decoded once into arrays. It is compiled into each of
+ * plain.c and plain_play.c, as if each stood alone. */
+#ifndef PLAIN_TABLE_H
+#define PLAIN_TABLE_H
+
+#include <stddef.h>
+#include <stdint.h>
+
+enum {
+    MOST_TASKS = 32,
+    MOST_ROWS = 64,
+    MOST_SEMAPHORES = 16,
+    MOST_TICKS = 1000000,
+    HEADER_BYTES = 5,
+    TASK_BYTES = 17,
+    ROW_BYTES = 6,
+    LATE = 255
+};
+
+struct tasks {
+    size_t n;
+    uint8_t priority[MOST_TASKS];
+    uint32_t T[MOST_TASKS], C[MOST_TASKS], D[MOST_TASKS], J[MOST_TASKS];
+};
+
+struct rows {
+    size_t m;
+    uint8_t place[MOST_ROWS], semaphore[MOST_ROWS];
+    uint32_t length[MOST_ROWS];
+    uint8_t ceiling[MOST_SEMAPHORES + 1];
+};
+
+static uint64_t verdict(uint32_t code, size_t place)
+{
+    return (uint64_t)code << 32 | (uint32_t)place;
+}
+
+static uint32_t big_endian_32(const uint8_t *at)
+{
+    return (uint32_t)at[0] << 24 | (uint32_t)at[1] << 16 | (uint32_t)at[2] << 8 | at[3];
+}
+
+/* Refusals 1 to 4. */
+static uint64_t read_header(const uint8_t *table, size_t length, size_t *n, size_t *m)
+{
+    size_t stated;
+
+    if (length < HEADER_BYTES)
+        return verdict(1, 0);
+    if (table[0] != 1)
+        return verdict(2, 0);
+    stated = (size_t)table[1] << 8 | table[2];
+    *n = table[3];
+    *m = table[4];
+    if (*n < 1 || *n > MOST_TASKS || *m > MOST_ROWS)
+        return verdict(3, 0);
+    if (stated != length || HEADER_BYTES + TASK_BYTES * *n + ROW_BYTES * *m != length)
+        return verdict(4, 0);
+    return 0;
+}
+
+/* Refusals 5 and 6, record by record. */
+static uint64_t read_tasks(const uint8_t *at, struct tasks *tasks)
+{
+    uint32_t before = 256;
+
+    for (size_t i = 0; i < tasks->n; i++, at += TASK_BYTES) {
+        uint8_t priority = at[0];
+        uint32_t T = big_endian_32(at + 1), C = big_endian_32(at + 5);
+        uint32_t D = big_endian_32(at + 9), J = big_endian_32(at + 13);
+
+        if (T < 1 || T > MOST_TICKS || C < 1 || C > MOST_TICKS || D < 1 || D > T
+            || J > MOST_TICKS)
+            return verdict(5, i);
+        if (priority == 0 || priority >= before)
+            return verdict(6, i);
+        before = priority;
+        tasks->priority[i] = priority;
+        tasks->T[i] = T;
+        tasks->C[i] = C;
+        tasks->D[i] = D;
+        tasks->J[i] = J;
+    }
+    return 0;
+}
+
+/* Refusal 7, and the semaphores' ceilings. */
+static uint64_t read_rows(const uint8_t *at, const struct tasks *tasks, struct rows *rows)
+{
+    uint32_t before = 0;
+
+    for (size_t s = 0; s <= MOST_SEMAPHORES; s++)
+        rows->ceiling[s] = 0;
+    for (size_t r = 0; r < rows->m; r++, at += ROW_BYTES) {
+        uint8_t place = at[0], semaphore = at[1];
+        uint32_t length = big_endian_32(at + 2);
+        uint32_t order = (uint32_t)place << 8 | semaphore; /* at least 1 in a good row */
+
+        if (place >= tasks->n || semaphore < 1 || semaphore > MOST_SEMAPHORES
+            || length < 1 || length > tasks->C[place] || order <= before)
+            return verdict(7, r);
+        before = order;
+        rows->place[r] = place;
+        rows->semaphore[r] = semaphore;
+        rows->length[r] = length;
+        if (tasks->priority[place] > rows->ceiling[semaphore])
+            rows->ceiling[semaphore] = tasks->priority[place];
+    }
+    return 0;
+}
+
+#endif
