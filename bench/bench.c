@@ -1,15 +1,17 @@
-/* bench TABLE REPEATS: calls one analysis on the same table that many times, so that a counting
- * tool can take the difference of two runs. Built with -DOURS it calls the library, else the
- * plain C analysis. */
+/* bench TABLE REPEATS: makes one call on the same table that many times, so that a counting tool
+ * can take the difference of two runs. It calls the analysis, or the engine if it is built with
+ * -DPLAY; that of the library if it is built with -DOURS, else that of plain C. */
 #include <stdio.h>
 #include <stdlib.h>
 
 #ifdef OURS
 #include "ulmerascio.h"
 #define analyse ulmerascio_analyse
+#define play ulmerascio_play
 #else
 #include "plain.h"
 #define analyse plain_analyse
+#define play plain_play
 #endif
 
 enum { MOST_BYTES = 934, MOST_TASKS = 32 };
@@ -35,7 +37,11 @@ int main(int count, char **words)
     if (table[3] >= 1 && table[3] <= MOST_TASKS)
         slice = table[3];
     for (unsigned long i = 0; i < repeats; i++) {
+#ifdef PLAY
+        uint64_t verdict = play(table, length, answers, slice);
+#else
         uint64_t verdict = analyse(table, length, answers, slice, rounds, slice);
+#endif
 
         sink = verdict + answers[slice - 1] + rounds[slice - 1];
     }

@@ -62,9 +62,9 @@ uint64_t ulmerascio_analyse(const uint8_t *table, size_t table_len,
                             uint32_t *rounds, size_t rounds_len);
 
 /* Plays the table of table_len bytes at table: a second way to the answers of
- * ulmerascio_analyse, which solves no equation and so can be held against it. All tasks are
- * released at tick 0 and then every T, each job takes its full cost, and tick after tick the
- * most urgent task that has work is served; late jobs queue.
+ * ulmerascio_analyse. It solves no equation, so that each can be held against the other. All
+ * tasks are released at tick 0 and then every T, each job takes its full cost, and tick after
+ * tick the most urgent task that has work is served; late jobs queue.
  *
  * Refusals 1 to 8 are as above, 8 for its one slice; then a table with any jitter or row is
  * refused with 9. The verdict is packed as above, with codes 1 to 9 for a refusal.

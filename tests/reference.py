@@ -1,5 +1,5 @@
 #!/usr/bin/env python3
-"""A second opinion on task tables, written from document 01 and its changes alone.
+"""A second opinion on task tables, written from documents 01 and 02 alone.
 
 It shares no code and no idea of a quick way with the library: it reads the bytes
 as document 01 lays them out, looks for each task's answer by search, and plays
@@ -1585,6 +1585,47 @@ def measured_classes():
     yield from refusal_classes()
 
 
+Playable = collections.namedtuple("Playable", "name title data")
+
+# 1,000,000 ticks less one, and a single tick, with a release in the first alone: their difference
+# is that of 999,998 ticks without a release.
+MANY_TICKS = Playable("many-ticks", "1 task (1000000, 999999, 1000000)",
+                      Draft(listed((1000000, 999999, 1000000))).data())
+ONE_TICK = Playable("one-tick", "1 task (1000000, 1, 1000000)",
+                    Draft(listed((1000000, 1, 1000000))).data())
+
+
+def every_tick_class(name, count):
+    """32 tasks, of which that many, the first ones, are released at every tick."""
+    short = [(1, 1, 1)] * count
+    long = [(GREATEST_TICKS, 1, GREATEST_TICKS)] * (MOST_TASKS - count)
+    title = "32 tasks, %d of them due at every tick" % count
+    return Playable(name, title, Draft(listed(*(short + long))).data())
+
+
+def unplayable_classes():
+    _, draft = loaded_draft(MOST_TASKS, 0, [30])
+    draft.change_task(MOST_TASKS - 1, jitter=1)
+    yield Playable("refusal-9-jitter", "refusal 9, jitter in the last of 32 tasks", draft.data())
+    _, draft = loaded_draft(MOST_TASKS, MOST_ROWS, [30])
+    yield Playable("refusal-9-rows", "refusal 9, 32 tasks, 64 rows", draft.data())
+
+
+def playable_classes():
+    """The slowest is the table with the most instructions that was found: a task costs most in a
+    tick in which it is released, and not all can be released at every tick and have a late
+    deadline."""
+    for measured in load_classes():
+        if not measured.name.endswith("-rows"):
+            yield Playable(measured.name, measured.title, measured.data)
+    yield Playable("analysis-slowest", "the slowest table found for the analysis", slowest_table())
+    yield every_tick_class("one-due", 1)
+    yield every_tick_class("slowest", MOST_TASKS - 1)
+    yield MANY_TICKS
+    yield ONE_TICK
+    yield from unplayable_classes()
+
+
 # ---------------------------------------------------------------------------
 # Commands
 # ---------------------------------------------------------------------------
@@ -1637,6 +1678,17 @@ def command_classes(arguments):
         print("%s %d %d %s" % measured[:4])
 
 
+def command_plays(arguments):
+    os.makedirs(arguments.folder, exist_ok=True)
+    for playable in playable_classes():
+        write_file(arguments.folder, playable.name + ".table", playable.data)
+        try:
+            ticks = ticks_played(read_playable(Entry(playable.data, MOST_TASKS, 0)))
+        except Refused:
+            ticks = 0
+        print("%s %d %s" % (playable.name, ticks, playable.title))
+
+
 MAKE_HELP = """writes FOLDER/tables and FOLDER/expected, the same bytes at every run
 
 An entry of "tables" is 2 bytes, big-endian, with the table's length; 1 byte with the length in
@@ -1656,10 +1708,14 @@ for each a line with its name, two numbers of repeats whose difference is to be 
 title.
 """
 
+PLAYS_HELP = """writes one table for each class on which the engine is measured, FOLDER/NAME.table,
+and prints for each a line with its name, the number of ticks that are played, and a title.
+"""
+
 
 def parse_arguments():
     parser = argparse.ArgumentParser(
-        description="A second opinion on task tables, written from document 01 alone.")
+        description="A second opinion on task tables, written from the documents alone.")
     commands = parser.add_subparsers(dest="command", required=True, metavar="COMMAND")
 
     answer = commands.add_parser("answer", help="print the program's text for one table")
@@ -1679,6 +1735,11 @@ def parse_arguments():
                                   description=CLASSES_HELP, formatter_class=raw)
     classes.add_argument("folder", metavar="FOLDER")
     classes.set_defaults(run=command_classes)
+
+    plays = commands.add_parser("plays", help="write the tables on which the engine is measured",
+                                description=PLAYS_HELP, formatter_class=raw)
+    plays.add_argument("folder", metavar="FOLDER")
+    plays.set_defaults(run=command_plays)
     return parser.parse_args()
 
 
