@@ -1,6 +1,6 @@
 -- What each verdict says in document 01's words: a number, and the place where it has one.
 -- Assumes nothing.
-use Prim.Native.Nat.{ℕ}
+use Prim.Native.Nat.{ℕ, _+_, _*_}
 use mathlib.Core.Bool.{Bool, true, false}
 use Rattle.model.specs.declared.Place.{Place}
 use Rattle.tables.specs.declared.Refusal.{Refusal}
@@ -19,6 +19,10 @@ abbrev pub verdictPlace : Verdict → ℕ
 verdictPlace (Refused refusal) = placeOf refusal
 verdictPlace Schedulable = 0
 verdictPlace (Late place) = place .0
+
+-- both in one number, for C: the code in the upper 32 bits, the place in the lower 32
+abbrev pub packed : Verdict → ℕ
+packed verdict = codeOf verdict * 4294967296 + verdictPlace verdict
 
 abbrev pub isSchedulable : Verdict → Bool
 isSchedulable (Refused refusal) = false

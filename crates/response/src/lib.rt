@@ -1,6 +1,7 @@
 // The public entry: the bytes of one table and two lent slices in, a verdict out, answers and rounds in the slices.
 ghost use mathlib.Core.Path.{_≡_};
-ghost use Rattle.response.specs.Verdicts.{codeOf, verdictPlace};
+ghost use Prim.Native.Nat.{_<_};
+ghost use Rattle.response.specs.Verdicts.{codeOf, verdictPlace, packed};
 ghost use Rattle.response.specs.Outcome.{Outcome};
 use model::Place;
 use tables::Check;
@@ -36,6 +37,14 @@ pub fn place(verdict: Verdict) -> usize
         Verdict::Schedulable => 0,
         Verdict::Late(at) => at.0,
     }
+}
+
+// The verdict in one number, for C: the code in the upper 32 bits, the place in the lower 32.
+pub fn pack(verdict: Verdict) -> u64
+    requires { ⌜ verdictPlace verdict < 256 ⌝ }
+    ensures { λ r. ⌜ r ≡ packed verdict ⌝ }
+{
+    (code(verdict) as u64) * 4294967296 + (place(verdict) as u64)
 }
 
 // Any bytes and any slices get a verdict. A refusal changes no word; otherwise words 0 to n - 1 of `answers` and `rounds` are

@@ -2,7 +2,7 @@
 -- Assumes nothing.
 use mathlib.Core.Path.{_∙_, ap}
 use Rattle.response.proofs.PlaceLaws.{verdict-place}
-use Rattle.firmware.specs.Packing.{packed}
+use Rattle.response.specs.Verdicts.{packed}
 use borrow.Author.Needs.{needs}
 use Rattle.firmware.proofs.ulmerascio_analyse.Statement.{statement}
 use Rattle.firmware.proofs.ulmerascio_analyse.Tie as tie

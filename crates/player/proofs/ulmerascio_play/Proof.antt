@@ -1,11 +1,11 @@
--- `firmware::ulmerascio_play` meets its contract: it packs the verdict of `play`, whose place is small.
+-- `player::ulmerascio_play` meets its contract: it packs the verdict of `play`, whose place is small.
 -- Assumes nothing.
 use borrow.Author.Needs.{needs}
 use mathlib.Core.Path.{_∙_, ap}
 use Rattle.engine.proofs.Claims.{play-place}
-use Rattle.firmware.specs.Packing.{packed}
-use Rattle.firmware.proofs.ulmerascio_play.Statement.{statement}
-use Rattle.firmware.proofs.ulmerascio_play.Tie as tie
+use Rattle.response.specs.Verdicts.{packed}
+use Rattle.player.proofs.ulmerascio_play.Statement.{statement}
+use Rattle.player.proofs.ulmerascio_play.Tie as tie
 
 play-requires : tie.Need-play-requires
 play-requires c κs = search needs
