@@ -55,14 +55,8 @@ uint64_t plain_play(const uint8_t *table, size_t table_len,
 {
     struct tasks tasks;
     struct rows rows;
-    uint64_t result = read_header(table, table_len, &tasks.n, &rows.m);
+    uint64_t result = read_table(table, table_len, &tasks, &rows);
 
-    if (result)
-        return result;
-    result = read_tasks(table + HEADER_BYTES, &tasks);
-    if (result)
-        return result;
-    result = read_rows(table + HEADER_BYTES + TASK_BYTES * tasks.n, &tasks, &rows);
     if (result)
         return result;
     if (answers_len < tasks.n)

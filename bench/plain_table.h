@@ -109,4 +109,18 @@ static uint64_t read_rows(const uint8_t *at, const struct tasks *tasks, struct r
     return 0;
 }
 
+/* The whole table: refusals 1 to 7. */
+static uint64_t read_table(const uint8_t *table, size_t length, struct tasks *tasks,
+                           struct rows *rows)
+{
+    uint64_t result = read_header(table, length, &tasks->n, &rows->m);
+
+    if (result)
+        return result;
+    result = read_tasks(table + HEADER_BYTES, tasks);
+    if (result)
+        return result;
+    return read_rows(table + HEADER_BYTES + TASK_BYTES * tasks->n, tasks, rows);
+}
+
 #endif

@@ -8,14 +8,9 @@ ghost use Rattle.model.specs.Lists.{filled, largestTo};
 ghost use Rattle.blocking.specs.Slices.{ceilingIn, ownerAt, topAt, sectionAt, RowsHeld};
 use model::Priority;
 use model::Ticks;
+use model::larger;
 
 fn larger_priority(a: u8, b: u8) -> u8
-    ensures { λ r. ⌜ r ≡ max a b ⌝ }
-{
-    if a < b { b } else { a }
-}
-
-fn larger(a: u32, b: u32) -> u32
     ensures { λ r. ⌜ r ≡ max a b ⌝ }
 {
     if a < b { b } else { a }

@@ -1,3 +1,4 @@
 pub mod RunLaws
 pub mod PlayedLaws
 pub mod Claims
+pub mod ExampleLaws

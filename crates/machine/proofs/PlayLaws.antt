@@ -12,7 +12,7 @@ use Rattle.model.proofs.Lists.{getD-filled, length-filled, largest-low, largest
 use Rattle.model.proofs.Filling.{filled-set, filled-again, filled-same, filled-word, is-filled}
 use Rattle.model.proofs.Tests.{eqb?, ltb?}
 use Rattle.machine.specs.Machine.{State, after, nextPlace, placeServed, earliest, none, played}
-use Rattle.machine.specs.Slices.{wordAt, TasksHeld, DeadlinesHeld, StateHeld, Holds, HasNext, stateIn, releasedIn, servedIn, reportedIn}
+use Rattle.machine.specs.Slices.{wordAt, TasksHeld, DeadlinesHeld, StateHeld, Leaves, HasNext, stateIn, releasedIn, servedIn, reportedIn}
 use Rattle.machine.proofs.MachineLaws.{Next, inTick, left-step, left-high, due-is, the-next, start-ready, stay-ready, after-own}
 use Rattle.machine.proofs.ReportLaws.{reported, report-none, report-late, report-all, report-on, report-other, report-quiet, report-own}
 use Rattle.machine.proofs.SameLaws.{Same, release-same, serve-same}
@@ -163,7 +163,7 @@ module _ (periods costs : List ℕ) (n : ℕ) where
               (λ e. other (e ∙ sym (place-served place is))))))
 
       module _ (leftNow dueNow : List ℕ) (rest again : ℕ)
-          (holds : Holds n left due (servedIn periods costs n t left due ready) leftNow dueNow rest again) where
+          (holds : Leaves n left due (servedIn periods costs n t left due ready) leftNow dueNow rest again) where
         servedSame : Same n (servedIn periods costs n t left due ready) (engine (suc t))
         unfolding after
         servedSame =

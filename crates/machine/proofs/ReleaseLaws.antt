@@ -14,7 +14,7 @@ use borrow.Author.Tests.{ne-eqb}
 use Rattle.model.specs.Choice.{on}
 use Rattle.model.proofs.Filling.{Filling, filling-at, filling-old, filling-set, filled-word, is-filled}
 use Rattle.machine.specs.Machine.{leftWith, dueWith, raised, raisedBy, earliest}
-use Rattle.machine.specs.Slices.{wordAt, TasksHeld, StateHeld, Holds, stateIn, releasedIn}
+use Rattle.machine.specs.Slices.{wordAt, TasksHeld, StateHeld, Leaves, stateIn, releasedIn}
 
 -- the earliest tick is no later than any, and no earlier than what all have reached
 pub earliest-low : (f : ℕ → ℕ) (n p : ℕ) → p < n → earliest f n ≤ f p
@@ -93,7 +93,7 @@ module _ (periods costs : List ℕ) (n t : ℕ) (left due : List ℕ) (ready : �
 
   -- all tasks were looked at
   pub all-released : (p word next : ℕ) (leftThen dueThen : List ℕ) → Releasing p word next → Filling leftNow n p left leftThen →
-      Filling dueNow n p due dueThen → n ≤ p → Holds n left due (releasedIn periods costs n t left due ready) leftThen dueThen word next
+      Filling dueNow n p due dueThen → n ≤ p → Leaves n left due (releasedIn periods costs n t left due ready) leftThen dueThen word next
   all-released p word next leftThen dueThen r lefts dues h =
       let all : n ≡ p = omega (arith, r .within) in
       record {
@@ -113,7 +113,7 @@ module _ (periods costs : List ℕ) (n t : ℕ) (left due : List ℕ) (ready : �
     none-raised zero h = refl
     none-raised (suc p) h = rw (later p (omega arith)) (none-raised p (omega arith))
 
-    pub nothing-due : Holds n left due (releasedIn periods costs n t left due ready) left due ready next
+    pub nothing-due : Leaves n left due (releasedIn periods costs n t left due ready) left due ready next
     nothing-due =
         record {
           leftIs = is-filled leftNow n left left (held .leftLong) refl (λ p h. rw (later p h) (sym (add-zero (wordAt left p)))) (λ p h. refl);

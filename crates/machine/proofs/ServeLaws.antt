@@ -9,12 +9,12 @@ use lib.ListN.{length, set}
 use Rattle.model.proofs.Lists.{getD-filled, length-filled}
 use Rattle.model.proofs.Filling.{filled-set}
 use Rattle.machine.specs.Machine.{State, nextPlace, leftAfter, readyAfter}
-use Rattle.machine.specs.Slices.{wordAt, Holds, HasNext, releasedIn, servedIn, reportedIn}
+use Rattle.machine.specs.Slices.{wordAt, Leaves, HasNext, releasedIn, servedIn, reportedIn}
 use Rattle.machine.proofs.MachineLaws.{after-own, after-other}
 
 module _ (periods costs : List ℕ) (n t : ℕ) (left due : List ℕ) (ready : ℕ) (few : n ≤ 32) (leftLong : n ≤ length left)
     (has : HasNext n (releasedIn periods costs n t left due ready)) (leftNow dueNow : List ℕ) (readyNow next place : ℕ)
-    (holds : Holds n left due (releasedIn periods costs n t left due ready) leftNow dueNow readyNow next)
+    (holds : Leaves n left due (releasedIn periods costs n t left due ready) leftNow dueNow readyNow next)
     (is : place ≡ nextPlace readyNow) where
   abbrev state : State
   state = releasedIn periods costs n t left due ready
@@ -40,7 +40,7 @@ module _ (periods costs : List ℕ) (n t : ℕ) (left due : List ℕ) (ready : �
   -- what it leaves is the state after the tick
   pub tick-served : (leftAfterwards : List ℕ) (rest : ℕ) → leftAfterwards ≡ set leftNow place (wordAt leftNow place - 1) →
       rest ≡ readyAfter (eqb (wordAt leftNow place) 1) place readyNow →
-      Holds n left due (servedIn periods costs n t left due ready) leftAfterwards dueNow rest next
+      Leaves n left due (servedIn periods costs n t left due ready) leftAfterwards dueNow rest next
   tick-served leftAfterwards rest stored cleared =
       record {
         leftIs =

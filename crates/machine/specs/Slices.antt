@@ -49,8 +49,8 @@ pub record StateHeld (n t : ℕ) (left due : List ℕ) (next : ℕ) : Type 0 whe
   pub nextIs : next ≡ earliest (wordAt due) n
   pub notPast : t ≤ next
 
--- the slices hold a state in place of another
-pub record Holds (n : ℕ) (left due : List ℕ) (state : State) (leftNow dueNow : List ℕ) (ready next : ℕ) : Type 0 where
+-- what a tick, or its releases, leave in the slices: a state in place of another, and the earliest tick at which something is due
+pub record Leaves (n : ℕ) (left due : List ℕ) (state : State) (leftNow dueNow : List ℕ) (ready next : ℕ) : Type 0 where
   pub leftIs : leftNow ≡ filled (state .left) n left
   pub dueIs : dueNow ≡ filled (state .due) n due
   pub readyIs : ready ≡ state .ready

@@ -1,14 +1,15 @@
 // The engine of document 02, L1, over numbers alone: it plays tick after tick, and knows no bytes and no tables.
 ghost use mathlib.Core.Path.{_≡_};
-ghost use Prim.Native.Nat.{_+_, _-_, _≤_, _<_, max};
+ghost use Prim.Native.Nat.{_+_, _-_, _≤_, _<_};
 ghost use lib.Dec.{eqb, ltb};
 ghost use lib.ListN.{length, set};
 ghost use Rattle.model.specs.Choice.{pick};
 ghost use Rattle.model.specs.Lists.{filled, largestTo};
 ghost use Rattle.machine.specs.Machine as spec;
-ghost use Rattle.machine.specs.Slices.{wordAt, TasksHeld, DeadlinesHeld, StateHeld, Holds, HasNext, releasedIn, servedIn, reportedIn};
+ghost use Rattle.machine.specs.Slices.{wordAt, TasksHeld, DeadlinesHeld, StateHeld, Leaves, HasNext, releasedIn, servedIn, reportedIn};
 use model::Place;
 use model::Ticks;
+use model::larger;
 
 mod release;
 
@@ -83,7 +84,7 @@ pub fn step(
     requires { ⌜ (n ≤ length (now deadlines)) × (n ≤ length (now answers)) × (at .0 < 1000000) ⌝ }
     requires { ⌜ StateHeld n (at .0) (now left) (now due) (next .0) ⌝ }
     requires { ⌜ HasNext n (releasedIn (now periods) (now costs) n (at .0) (now left) (now due) ready) ⌝ }
-    ensures { λ r. ⌜ Holds n (now (left .entry)) (now (due .entry)) (servedIn (now (periods .entry)) (now (costs .entry)) n (at .0) (now (left .entry)) (now (due .entry)) ready) (now (left .exit)) (now (due .exit)) (r .ready) (r .next .0) ⌝ }
+    ensures { λ r. ⌜ Leaves n (now (left .entry)) (now (due .entry)) (servedIn (now (periods .entry)) (now (costs .entry)) n (at .0) (now (left .entry)) (now (due .entry)) ready) (now (left .exit)) (now (due .exit)) (r .ready) (r .next .0) ⌝ }
     ensures { λ r. ⌜ r .place .0 ≡ spec.nextPlace (releasedIn (now (periods .entry)) (now (costs .entry)) n (at .0) (now (left .entry)) (now (due .entry)) ready .ready) ⌝ }
     ensures { λ r. ⌜ now (answers .exit) ≡ set (now (answers .entry)) (r .place .0) (reportedIn (releasedIn (now (periods .entry)) (now (costs .entry)) n (at .0) (now (left .entry)) (now (due .entry)) ready .left (r .place .0)) (at .0) (wordAt (now (deadlines .entry)) (r .place .0)) (wordAt (now (answers .entry)) (r .place .0))) ⌝ }
 {
@@ -106,12 +107,6 @@ fn clear(n: usize, answers: &mut [u32])
     for i in 0..n {
         answers[i] = 0;
     }
-}
-
-fn larger(a: u32, b: u32) -> u32
-    ensures { λ r. ⌜ r ≡ max a b ⌝ }
-{
-    if a < b { b } else { a }
 }
 
 // The largest of n counts of ticks.

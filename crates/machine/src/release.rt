@@ -5,7 +5,7 @@ ghost use lib.Dec.{eqb};
 ghost use lib.ListN.{length, set};
 ghost use Rattle.model.specs.Choice.{pick, on};
 ghost use Rattle.machine.specs.Machine as spec;
-ghost use Rattle.machine.specs.Slices.{wordAt, TasksHeld, StateHeld, Holds, releasedIn};
+ghost use Rattle.machine.specs.Slices.{wordAt, TasksHeld, StateHeld, Leaves, releasedIn};
 use model::Place;
 use model::Ticks;
 
@@ -67,7 +67,7 @@ fn release_due(
 ) -> Released
     requires { ⌜ TasksHeld (now periods) (now costs) n ⌝ }
     requires { ⌜ StateHeld n (at .0) (now left) (now due) (next .0) ⌝ }
-    ensures { λ r. ⌜ Holds n (now (left .entry)) (now (due .entry)) (releasedIn (now (periods .entry)) (now (costs .entry)) n (at .0) (now (left .entry)) (now (due .entry)) ready) (now (left .exit)) (now (due .exit)) (r .ready) (r .next .0) ⌝ }
+    ensures { λ r. ⌜ Leaves n (now (left .entry)) (now (due .entry)) (releasedIn (now (periods .entry)) (now (costs .entry)) n (at .0) (now (left .entry)) (now (due .entry)) ready) (now (left .exit)) (now (due .exit)) (r .ready) (r .next .0) ⌝ }
 {
     let mut word = ready;
     let mut earliest: u32 = 4294967295;
@@ -102,7 +102,7 @@ pub fn release(
 ) -> Released
     requires { ⌜ TasksHeld (now periods) (now costs) n ⌝ }
     requires { ⌜ StateHeld n (at .0) (now left) (now due) (next .0) ⌝ }
-    ensures { λ r. ⌜ Holds n (now (left .entry)) (now (due .entry)) (releasedIn (now (periods .entry)) (now (costs .entry)) n (at .0) (now (left .entry)) (now (due .entry)) ready) (now (left .exit)) (now (due .exit)) (r .ready) (r .next .0) ⌝ }
+    ensures { λ r. ⌜ Leaves n (now (left .entry)) (now (due .entry)) (releasedIn (now (periods .entry)) (now (costs .entry)) n (at .0) (now (left .entry)) (now (due .entry)) ready) (now (left .exit)) (now (due .exit)) (r .ready) (r .next .0) ⌝ }
 {
     if at.0 < next.0 {
         return Released { ready, next };

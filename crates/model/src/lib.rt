@@ -1,8 +1,16 @@
 // Three kinds of number that must not be mixed up by accident: a count of ticks, a priority, and a task's place in its table.
 // A slice holds plain u32 or u8; a single value is one of these, and crossing from one to another is written out.
+ghost use mathlib.Core.Path.{_≡_};
+ghost use Prim.Native.Nat.{max};
 
 pub struct Ticks(pub u32);
 
 pub struct Priority(pub u8);
 
 pub struct Place(pub usize);
+
+pub fn larger(a: u32, b: u32) -> u32
+    ensures { λ r. ⌜ r ≡ max a b ⌝ }
+{
+    if a < b { b } else { a }
+}

@@ -1,0 +1,25 @@
+-- A small play, drawn by hand: document 01's fifth table, (4, 1), (6, 2) and (10, 3).
+-- Assumes nothing.
+use Prim.Native.Nat.{ℕ}
+use mathlib.Core.Path.{_≡_}
+use mathlib.Core.List.{List, [], _∷_}
+use Rattle.model.specs.Lists.{tabulate}
+use Rattle.model.specs.Tables.{Task}
+use Rattle.engine.specs.Run.{engineAfter, engineServes, engineAnswer}
+
+-- a task that is due at the end of its period
+abbrev task : ℕ → ℕ → ℕ → Task
+task priority period cost = record { priority = priority; period = period; cost = cost; deadline = period; jitter = 0 }
+
+abbrev pub fifth : List Task
+fifth = task 3 4 1 ∷ task 2 6 2 ∷ task 1 10 3 ∷ []
+
+-- the ready word after t ticks
+abbrev pub readyAfterTicks : ℕ → ℕ
+readyAfterTicks t = engineAfter fifth t .ready
+
+-- The places that ticks 0 to 9 serve; the ready word before the first and after each of them (bit 0 for the first task); the answers.
+pub record FifthPlayed : Type 0 where
+  pub places : tabulate (engineServes fifth) 10 ≡ 0 ∷ 1 ∷ 1 ∷ 2 ∷ 0 ∷ 2 ∷ 1 ∷ 1 ∷ 0 ∷ 2 ∷ []
+  pub words : tabulate readyAfterTicks 11 ≡ 0 ∷ 6 ∷ 6 ∷ 4 ∷ 4 ∷ 4 ∷ 4 ∷ 6 ∷ 4 ∷ 4 ∷ 0 ∷ []
+  pub answers : tabulate (engineAnswer fifth) 3 ≡ 1 ∷ 3 ∷ 10 ∷ []
