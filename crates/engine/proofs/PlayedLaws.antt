@@ -2,7 +2,6 @@
 -- Assumes nothing.
 use Prim.Native.Nat.{ℕ, _+_, _≤_, _<_}
 use native.Mathlib.Omega.{arith}
-use native.Mathlib.Numerals.{add-one}
 use mathlib.Core.Path.{_≡_, refl, sym, _∙_, ap}
 use mathlib.Core.Bool.{false, true}
 use mathlib.Core.List.{List}
@@ -11,7 +10,7 @@ use lib.ListN.{length}
 use borrow.Author.Tests.{eq-eqb, ne-eqb, lt-leb}
 use Rattle.model.specs.Choice.{both}
 use Rattle.model.specs.Lists.{filled, largestTo}
-use Rattle.model.specs.Tables.{Task, taskOf}
+use Rattle.model.specs.Tables.{Task}
 use Rattle.model.proofs.Lists.{largest-same}
 use Rattle.model.proofs.Filling.{filled-same, filled-word}
 use Rattle.model.proofs.Tests.{both-fail, both-pass}
@@ -19,7 +18,7 @@ use Rattle.model.proofs.First.{first-none, first-on, first-stop, first-same}
 use Rattle.tables.specs.declared.Refusal.{Refusal}
 use Rattle.tables.specs.declared.Refusal.the-variants.{NoRoom, NotPlayable}
 use Rattle.tables.specs.declared.Check.the-variants as check
-use Rattle.tables.specs.Layout.{taskCount, rowCount, taskAt, tasksOf, jitterIn, costIn}
+use Rattle.tables.specs.Layout.{taskCount, rowCount, tasksOf, jitterIn}
 use Rattle.tables.specs.Refusals.{at, firstIn, orElse, unless}
 use Rattle.tables.specs.Checks.{headCheck, recordsCheck, rowsCheck, tableCheck}
 use Rattle.tables.specs.Meaning.{HeadRight, RecordsRight}
@@ -32,7 +31,7 @@ use Rattle.response.specs.declared.Verdict.{Verdict}
 use Rattle.response.specs.declared.Verdict.the-variants as verdict
 use Rattle.response.specs.Verdicts.{isSchedulable}
 use Rattle.response.specs.Outcome.{lateAt, resultOf}
-use Rattle.response.specs.Stages.{Holds, RecordsHeld}
+use Rattle.response.specs.Stages.{RecordsHeld}
 use Rattle.response.proofs.StageLaws.{no-rows}
 use Rattle.response.proofs.TableLaws.{task-is, tasks-count}
 use Rattle.engine.specs.Run.{engineAnswer, periodsOf, costsOf, deadlinesOf}

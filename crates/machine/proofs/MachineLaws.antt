@@ -13,7 +13,7 @@ use lib.Bits.{bitAnd, or-lt, and-le-l}
 use lib.Count.{trailingZeros, trailing-le, trailing-of-zero}
 use Rattle.model.specs.Choice.{both, on}
 use Rattle.model.proofs.Tests.{bool?, ltb?, eqb?, on-high, both-fail}
-use Rattle.machine.specs.Machine.{State, started, bitOf, mask, isDue, leftWith, dueWith, raised, released, nextPlace, leftAfter, readyAfter, after, placeServed}
+use Rattle.machine.specs.Machine.{State, started, bitOf, mask, isDue, leftWith, raised, released, nextPlace, leftAfter, readyAfter, after, placeServed}
 use Rattle.machine.proofs.BitLaws.{high-bits, no-bits, mask-small, set-own, set-other, clear-own, clear-other, lowest-first, lowest-set}
 
 -- a bit is set for each of the n places where work is left, and for no other
@@ -230,15 +230,6 @@ module _ (period cost : ℕ → ℕ) (n : ℕ) where
   unfolding after
   left-step t p = refl
 
-  pub due-step : (t p : ℕ) → after period cost n (suc t) .due p ≡ dueWith period (after period cost n t .due) t p
-  unfolding after
-  due-step t p = refl
-
-  pub ready-step : (t : ℕ) → after period cost n (suc t) .ready
-      ≡ readyAfter (eqb (inTick t .left (placeServed period cost n t)) 1) (placeServed period cost n t) (inTick t .ready)
-  unfolding after
-  ready-step t = refl
-
   -- no more work is left than was released
   pub left-high : ((p : ℕ) → p < n → cost p ≤ 1000000) → (t p : ℕ) → p < n → after period cost n t .left p ≤ 1000000 * t
   unfolding after
@@ -315,15 +306,6 @@ module _ (period cost : ℕ → ℕ) (n : ℕ) where
 
     pub ready-bits : (t p : ℕ) → bitOf (after period cost n t .ready) p ≡ on (both (ltb p n) (ltb 0 (after period cost n t .left p))) 1
     ready-bits t = held-mirrors t .bits
-
-    pub raised-bits : (t p : ℕ) → bitOf (inTick t .ready) p ≡ on (both (ltb p n) (ltb 0 (inTick t .left p))) 1
-    raised-bits t = tick-mirrors t .bits
-
-    pub ready-small : (t : ℕ) → after period cost n t .ready < 4294967296
-    ready-small t = held-mirrors t .small
-
-    pub raised-small : (t : ℕ) → inTick t .ready < 4294967296
-    raised-small t = tick-mirrors t .small
 
     -- where a bit is set, the tick serves the first place where work is left
     pub the-next : (t : ℕ) → ¬ (inTick t .ready ≡ 0) → Next n (inTick t .left) (placeServed period cost n t)

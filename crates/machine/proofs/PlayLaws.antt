@@ -1,12 +1,12 @@
 -- One tick of the slices that hold the engine's state, and what is reported after it.
 -- Assumes nothing.
-use Prim.Native.Nat.{ℕ, zero, suc, _+_, _-_, _*_, _≤_, _<_}
+use Prim.Native.Nat.{ℕ, zero, suc, _+_, _-_, _≤_, _<_}
 use native.Mathlib.Omega.{arith}
 use native.Mathlib.Numerals.{add-one}
 use mathlib.Core.Path.{_≡_, refl, sym, _∙_, ap}
 use mathlib.Core.List.{List}
 use mathlib.Core.Logic.{inl, inr}
-use lib.ListN.{length, getD, set, replicate, length-replicate, getD-replicate}
+use lib.ListN.{length, set, replicate, length-replicate, getD-replicate}
 use Rattle.model.specs.Lists.{filled, largestTo}
 use Rattle.model.proofs.Lists.{getD-filled, length-filled, largest-low, largest-high}
 use Rattle.model.proofs.Filling.{filled-set, filled-again, filled-same, filled-word, is-filled}

@@ -5,16 +5,16 @@ use native.Mathlib.Omega.{arith}
 use native.Mathlib.Decide.{decLt}
 use native.Mathlib.Nat.{add-zero}
 use native.Mathlib.Numerals.{add-one}
-use mathlib.Core.Path.{_≡_, refl, sym, _∙_, ap, subst}
+use mathlib.Core.Path.{_≡_, refl, sym, _∙_}
 use mathlib.Core.Bool.{false}
 use mathlib.Core.List.{List}
 use lib.Dec.{eqb}
-use lib.ListN.{length, getD, set}
+use lib.ListN.{set}
 use borrow.Author.Tests.{ne-eqb}
 use Rattle.model.specs.Choice.{on}
 use Rattle.model.proofs.Filling.{Filling, filling-at, filling-old, filling-set, filled-word, is-filled}
 use Rattle.machine.specs.Machine.{leftWith, dueWith, raised, raisedBy, earliest}
-use Rattle.machine.specs.Slices.{wordAt, TasksHeld, StateHeld, Leaves, stateIn, releasedIn}
+use Rattle.machine.specs.Slices.{wordAt, StateHeld, Leaves, releasedIn}
 
 -- the earliest tick is no later than any, and no earlier than what all have reached
 pub earliest-low : (f : ℕ → ℕ) (n p : ℕ) → p < n → earliest f n ≤ f p

@@ -3,7 +3,7 @@ ghost use mathlib.Core.Path.{_≡_};
 ghost use Prim.Native.Nat.{_+_, _≤_, _<_, min};
 ghost use lib.Dec.{eqb};
 ghost use lib.ListN.{length, set};
-ghost use Rattle.model.specs.Choice.{pick, on};
+ghost use Rattle.model.specs.Choice.{on};
 ghost use Rattle.machine.specs.Machine as spec;
 ghost use Rattle.machine.specs.Slices.{wordAt, TasksHeld, StateHeld, Leaves, releasedIn};
 use model::Place;

@@ -1,7 +1,7 @@
 -- Which outcome each stage leads to.
 -- Assumes nothing.
 use Prim.Native.Nat.{ℕ, _≤_, _<_}
-use mathlib.Core.Path.{_≡_, refl, sym, _∙_, ap}
+use mathlib.Core.Path.{_≡_, _∙_, ap}
 use mathlib.Core.Bool.{false}
 use mathlib.Core.List.{List}
 use lib.Dec.{leb}
@@ -12,7 +12,6 @@ use Rattle.model.proofs.Filling.{filled-same}
 use Rattle.model.proofs.First.{first-same}
 use Rattle.tables.specs.declared.Refusal.{Refusal}
 use Rattle.tables.specs.declared.Refusal.the-variants.{NoRoom}
-use Rattle.tables.specs.declared.Check.{Check}
 use Rattle.tables.specs.declared.Check.the-variants as check
 use Rattle.tables.specs.Layout.{taskCount, tableOf}
 use Rattle.tables.specs.Refusals.{at}

@@ -2,7 +2,7 @@
 -- Assumes nothing.
 use Prim.Native.Nat.{_-_, _≤_}
 use native.Mathlib.Omega.{arith}
-use mathlib.Core.Path.{_≡_, sym, _∙_, ap}
+use mathlib.Core.Path.{_≡_}
 use Rattle.model.specs.Lists.{largestTo}
 use Rattle.machine.specs.Slices.{wordAt}
 use Rattle.machine.proofs.StepLaws.{largest-first, largest-next, largest-all}

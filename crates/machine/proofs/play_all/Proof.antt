@@ -1,8 +1,8 @@
 -- `machine::play_all` meets its contract: after each tick the slices hold the engine's state, and the answers what is known by then.
 -- Assumes nothing.
-use Prim.Native.Nat.{_-_, _≤_}
+use Prim.Native.Nat.{_-_}
 use native.Mathlib.Omega.{arith}
-use mathlib.Core.Path.{_≡_, _∙_, sym}
+use mathlib.Core.Path.{_≡_, sym}
 use Rattle.model.specs.Lists.{filled}
 use Rattle.machine.specs.Slices.{wordAt}
 use Rattle.machine.proofs.ReportLaws.{reported}

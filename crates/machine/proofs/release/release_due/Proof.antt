@@ -2,7 +2,6 @@
 -- Assumes nothing.
 use Prim.Native.Nat.{_-_}
 use native.Mathlib.Omega.{arith}
-use mathlib.Core.Path.{_≡_}
 use Rattle.model.proofs.Filling.{Filling, filling-none, filling-old}
 use Rattle.machine.specs.Machine.{leftWith, dueWith}
 use Rattle.machine.specs.Slices.{wordAt}
