@@ -7,7 +7,7 @@ ghost use Prim.Native.Nat.{_<_};
 ghost use mathlib.Core.Path.{_≡_};
 ghost use lib.ListN.{length};
 ghost use Rattle.printing.specs.Appended.{Appended};
-ghost use Rattle.worked.specs.Stay.{stayLine};
+ghost use Rattle.worked.specs.Stay.{stays, stayLine};
 
 mod playing;
 
@@ -126,7 +126,9 @@ fn first_to_stay(table: &[u8], verdict: Verdict) -> usize {
 }
 
 // Do the words from `first` on still hold the filler?
-pub fn stay(words: &[u32], first: usize) -> bool {
+pub fn stay(words: &[u32], first: usize) -> bool
+    ensures { λ r. ⌜ r ≡ stays (now (words .entry)) first ⌝ }
+{
     let mut i = first;
     while i < words.len() {
         if words[i] != FILLER {

@@ -1,12 +1,15 @@
 // The engine's side of an entry: its verdict, and whether it agrees with the analysis.
+ghost use mathlib.Core.Path.{_≡_};
 ghost use Rattle.printing.specs.Appended.{Appended};
-ghost use Rattle.worked.specs.Played.{playedText};
+ghost use Rattle.worked.specs.Played.{isRefused, sameWords, agrees, playedText};
 use printing::append;
 use response::Verdict;
 use response::code;
 use response::place;
 
-fn is_refused(verdict: Verdict) -> bool {
+fn is_refused(verdict: Verdict) -> bool
+    ensures { λ r. ⌜ r ≡ isRefused verdict ⌝ }
+{
     match verdict {
         Verdict::Refused(_) => true,
         Verdict::Schedulable => false,
@@ -15,7 +18,9 @@ fn is_refused(verdict: Verdict) -> bool {
 }
 
 // Are these the same words?
-fn same(one: &[u32], other: &[u32]) -> bool {
+fn same(one: &[u32], other: &[u32]) -> bool
+    ensures { λ r. ⌜ r ≡ sameWords (now (one .entry)) (now (other .entry)) ⌝ }
+{
     if one.len() != other.len() {
         return false;
     }
@@ -29,7 +34,9 @@ fn same(one: &[u32], other: &[u32]) -> bool {
 
 // A refusal of the engine leaves every word as it was; where neither refuses, both say the same, and leave the same words. (The
 // analysis alone refuses where there is no room for rounds.)
-pub fn agree(verdict: Verdict, heard: Verdict, answers: &[u32], played: &[u32]) -> bool {
+pub fn agree(verdict: Verdict, heard: Verdict, answers: &[u32], played: &[u32]) -> bool
+    ensures { λ r. ⌜ r ≡ agrees verdict heard (now (answers .entry)) (now (played .entry)) ⌝ }
+{
     if is_refused(heard) {
         return crate::stay(played, 0);
     }
