@@ -4,6 +4,9 @@
  * in each task's longest response time and the rounds spent on it, and says whether every task
  * meets its deadline. It covers one processor, preemptive fixed priorities, whole ticks and
  * sporadic tasks. The engine of document 02, L1, comes to the same answers by playing.
+ *
+ * ulmerascio_analyse is in libfirmware.a, ulmerascio_play in libplayer.a; neither needs the
+ * other.
  */
 #ifndef ULMERASCIO_H
 #define ULMERASCIO_H

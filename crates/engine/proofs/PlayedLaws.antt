@@ -9,7 +9,7 @@ use lib.Dec.{eqb, leb}
 use lib.ListN.{length}
 use borrow.Author.Tests.{eq-eqb, ne-eqb, lt-leb}
 use Rattle.model.specs.Choice.{both}
-use Rattle.model.specs.Lists.{filled, largestTo}
+use Rattle.model.specs.Lists.{filled, largestTo, wordOf}
 use Rattle.model.specs.Tables.{Task}
 use Rattle.model.proofs.Lists.{largest-same}
 use Rattle.model.proofs.Filling.{filled-same, filled-word}
@@ -25,7 +25,7 @@ use Rattle.tables.specs.Meaning.{HeadRight, RecordsRight}
 use Rattle.tables.proofs.CheckLaws.{head-right, records-right}
 use Rattle.tables.proofs.OrderLaws.{head-decides, records-decide, rows-decide, room-decides, all-pass}
 use Rattle.machine.specs.Machine.{played}
-use Rattle.machine.specs.Slices.{wordAt, TasksHeld, DeadlinesHeld}
+use Rattle.machine.specs.Slices.{TasksHeld, DeadlinesHeld}
 use Rattle.machine.proofs.SameLaws.{played-same}
 use Rattle.response.specs.declared.Verdict.{Verdict}
 use Rattle.response.specs.declared.Verdict.the-variants as verdict
@@ -149,17 +149,17 @@ module _ (bytes : List ℕ) (n : ℕ) (periods costs deadlines jitters : List �
       }
 
   -- the largest jitter
-  pub jitter-is : largestTo (wordAt jitters) n ≡ largestTo (jitterIn bytes) (taskCount bytes)
+  pub jitter-is : largestTo (wordOf jitters) n ≡ largestTo (jitterIn bytes) (taskCount bytes)
   jitter-is =
-      largest-same (wordAt jitters) (jitterIn bytes) n (held .jittersHeld .read) ∙ ap (largestTo (jitterIn bytes)) (held .read .counted)
+      largest-same (wordOf jitters) (jitterIn bytes) n (held .jittersHeld .read) ∙ ap (largestTo (jitterIn bytes)) (held .read .counted)
 
   -- the play of the slices is the play of the table's tasks
-  same-answer : (i : ℕ) → i < n → played (wordAt periods) (wordAt costs) n (wordAt deadlines) i ≡ engineAnswer (tasksOf bytes) i
+  same-answer : (i : ℕ) → i < n → played (wordOf periods) (wordOf costs) n (wordOf deadlines) i ≡ engineAnswer (tasksOf bytes) i
   same-answer i h =
-      played-same (wordAt periods) (wordAt costs) (periodsOf (tasksOf bytes)) (costsOf (tasksOf bytes)) n
+      played-same (wordOf periods) (wordOf costs) (periodsOf (tasksOf bytes)) (costsOf (tasksOf bytes)) n
       (λ p l. held .periodsHeld .read p l ∙ sym (ap (λ (t : Task). t .period) (task-is bytes p (inside l))))
       (λ p l. held .costsHeld .read p l ∙ sym (ap (λ (t : Task). t .cost) (task-is bytes p (inside l))))
-      (tasks-held .few) (tasks-held .costLow) (wordAt deadlines) (deadlinesOf (tasksOf bytes)) i h
+      (tasks-held .few) (tasks-held .costLow) (wordOf deadlines) (deadlinesOf (tasksOf bytes)) i h
       (held .deadlinesHeld .read i h ∙ sym (ap (λ (t : Task). t .deadline) (task-is bytes i (inside h))))
       ∙ ap (λ (m : ℕ). played (periodsOf (tasksOf bytes)) (costsOf (tasksOf bytes)) m (deadlinesOf (tasksOf bytes)) i)
       (held .read .counted ∙ sym (tasks-count bytes))
@@ -171,13 +171,13 @@ module _ (bytes : List ℕ) (n : ℕ) (periods costs deadlines jitters : List �
     pub no-room-left : length answers < n → Played bytes answers (verdict.Refused NoRoom) answers
     no-room-left h = refused bytes answers NoRoom (too-short bytes (length answers) n (held .read) none h)
 
-    pub jitter-refused : n ≤ length answers → ¬ (largestTo (wordAt jitters) n ≡ 0) → Played bytes answers (verdict.Refused NotPlayable) answers
+    pub jitter-refused : n ≤ length answers → ¬ (largestTo (wordOf jitters) n ≡ 0) → Played bytes answers (verdict.Refused NotPlayable) answers
     jitter-refused room some =
         refused bytes answers NotPlayable
         (has-jitter bytes (length answers) n (held .read) none room (λ e. some (jitter-is ∙ e)))
 
-    pub all-played : n ≤ length answers → (left : List ℕ) (v : Verdict) → largestTo (wordAt jitters) n ≡ 0 →
-        left ≡ filled (played (wordAt periods) (wordAt costs) n (wordAt deadlines)) n answers → v ≡ resultOf (wordAt left) n →
+    pub all-played : n ≤ length answers → (left : List ℕ) (v : Verdict) → largestTo (wordOf jitters) n ≡ 0 →
+        left ≡ filled (played (wordOf periods) (wordOf costs) n (wordOf deadlines)) n answers → v ≡ resultOf (wordOf left) n →
         Played bytes answers v left
     unfolding playVerdict playWords
     all-played room left v calm are result =
@@ -186,15 +186,15 @@ module _ (bytes : List ℕ) (n : ℕ) (periods costs deadlines jitters : List �
           verdictIs =
               rw clean
               (result
-              ∙ first-same isSchedulable verdict.Schedulable (lateAt (wordAt left)) (lateAt (engineAnswer (tasksOf bytes))) n
+              ∙ first-same isSchedulable verdict.Schedulable (lateAt (wordOf left)) (lateAt (engineAnswer (tasksOf bytes))) n
               (λ i h.
               ap (λ (x : ℕ). lateAt (λ k. x) i)
-              (filled-word (played (wordAt periods) (wordAt costs) n (wordAt deadlines)) n answers left are i h ∙ same-answer i h))
+              (filled-word (played (wordOf periods) (wordOf costs) n (wordOf deadlines)) n answers left are i h ∙ same-answer i h))
               ∙ ap (resultOf (engineAnswer (tasksOf bytes))) (held .read .counted));
           answersAre =
               rw clean
               (are
-              ∙ filled-same (played (wordAt periods) (wordAt costs) n (wordAt deadlines)) (engineAnswer (tasksOf bytes)) n answers same-answer
+              ∙ filled-same (played (wordOf periods) (wordOf costs) n (wordOf deadlines)) (engineAnswer (tasksOf bytes)) n answers same-answer
               ∙ ap (λ (m : ℕ). filled (engineAnswer (tasksOf bytes)) m answers) (held .read .counted));
         }
 

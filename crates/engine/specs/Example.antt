@@ -1,18 +1,15 @@
--- A small play, drawn by hand: document 01's fifth table, (4, 1), (6, 2) and (10, 3).
+-- A small play, drawn by hand: document 01's fifth table, (4, 1), (6, 2) and (10, 3), whose run is drawn in crates/runs too.
 -- Assumes nothing.
 use Prim.Native.Nat.{ℕ}
 use mathlib.Core.Path.{_≡_}
 use mathlib.Core.List.{List, [], _∷_}
 use Rattle.model.specs.Lists.{tabulate}
 use Rattle.model.specs.Tables.{Task}
+use Rattle.runs.specs.Examples.{three}
 use Rattle.engine.specs.Run.{engineAfter, engineServes, engineAnswer}
 
--- a task that is due at the end of its period
-abbrev task : ℕ → ℕ → ℕ → Task
-task priority period cost = record { priority = priority; period = period; cost = cost; deadline = period; jitter = 0 }
-
 abbrev pub fifth : List Task
-fifth = task 3 4 1 ∷ task 2 6 2 ∷ task 1 10 3 ∷ []
+fifth = three .tasks
 
 -- the ready word after t ticks
 abbrev pub readyAfterTicks : ℕ → ℕ

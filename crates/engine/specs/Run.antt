@@ -46,8 +46,8 @@ pub record AsInRun (tasks : List Task) (ticks : ℕ) (s : Schedule) (t : ℕ) : 
   -- and 32, which is no task's place, where the schedule serves nothing
   pub none : t < ticks → s t ≡ idle → engineServes tasks t ≡ 32
 
--- "It is proved to do what a run of document 01 does at every tick": for any number of ticks, and the legal schedule (there is one, and
--- no other: `ScheduleExists`, `OnlySchedule`)
+-- "It is proved to do what a run of document 01 does at every tick": for any number of ticks, and the legal schedule. (It is a run:
+-- `SynchronousIsRun`. It has such a schedule, and no other: `ScheduleExists`, `OnlySchedule`.)
 abbrev pub EveryTick : Type 0
 EveryTick =
     (tasks : List Task) → TasksFit tasks → length tasks ≤ 32 →

@@ -2,12 +2,12 @@
 ghost use mathlib.Core.Path.{_≡_};
 ghost use Prim.Native.Nat.{_≤_};
 ghost use lib.ListN.{length};
+ghost use Rattle.model.specs.Lists.{wordOf};
 ghost use Rattle.tables.specs.Layout.{rowCount, costIn};
 ghost use Rattle.tables.specs.declared.Check.the-variants as check;
 ghost use Rattle.tables.specs.declared.records.First.the-variants as found;
 ghost use Rattle.tables.specs.Checks.{headCheck};
 ghost use Rattle.tables.specs.Reading.{firstRecord};
-ghost use Rattle.machine.specs.Slices.{wordAt};
 ghost use Rattle.response.specs.Outcome.{resultOf};
 ghost use Rattle.response.specs.Stages.{Holds};
 ghost use Rattle.engine.specs.Outcome.{Played, playCheck};
@@ -145,7 +145,7 @@ pub fn without_rows(
 // Late at the first place whose answer is 0.
 fn result(answers: &[u32], n: usize) -> Verdict
     requires { ⌜ n ≤ length (now answers) ⌝ }
-    ensures { λ r. ⌜ r ≡ resultOf (wordAt (now (answers .entry))) n ⌝ }
+    ensures { λ r. ⌜ r ≡ resultOf (wordOf (now (answers .entry))) n ⌝ }
 {
     for i in 0..n {
         if answers[i] == 0 {

@@ -11,10 +11,11 @@ use mathlib.Core.List.{List}
 use lib.Dec.{eqb}
 use lib.ListN.{set}
 use borrow.Author.Tests.{ne-eqb}
+use Rattle.model.specs.Lists.{wordOf}
 use Rattle.model.specs.Choice.{on}
 use Rattle.model.proofs.Filling.{Filling, filling-at, filling-old, filling-set, filled-word, is-filled}
 use Rattle.machine.specs.Machine.{leftWith, dueWith, raised, raisedBy, earliest}
-use Rattle.machine.specs.Slices.{wordAt, StateHeld, Leaves, releasedIn}
+use Rattle.machine.specs.Slices.{StateHeld, Leaves, releasedIn}
 
 -- the earliest tick is no later than any, and no earlier than what all have reached
 pub earliest-low : (f : ℕ → ℕ) (n p : ℕ) → p < n → earliest f n ≤ f p
@@ -40,15 +41,15 @@ earliest-same f g (suc n) same = omega (arith, earliest-same f g n (λ p h. same
 
 module _ (periods costs : List ℕ) (n t : ℕ) (left due : List ℕ) (ready : ℕ) where
   abbrev leftNow : ℕ → ℕ
-  leftNow = leftWith (wordAt costs) (wordAt due) t (wordAt left)
+  leftNow = leftWith (wordOf costs) (wordOf due) t (wordOf left)
 
   abbrev dueNow : ℕ → ℕ
-  dueNow = dueWith (wordAt periods) (wordAt due) t
+  dueNow = dueWith (wordOf periods) (wordOf due) t
 
   -- after the first p tasks
   pub record Releasing (p word next : ℕ) : Type 0 where
     pub within : p ≤ n
-    pub wordIs : word ≡ raised (wordAt due) t ready p
+    pub wordIs : word ≡ raised (wordOf due) t ready p
     pub nextIs : next ≡ earliest dueNow p
 
   pub releasing-none : Releasing 0 ready 4294967295
@@ -56,29 +57,29 @@ module _ (periods costs : List ℕ) (n t : ℕ) (left due : List ℕ) (ready : �
   releasing-none = record { within = omega arith; wordIs = refl; nextIs = refl }
 
   -- the words at place p before its turn
-  pub due-old : (p : ℕ) (now : List ℕ) → Filling dueNow n p due now → wordAt now p ≡ wordAt due p
+  pub due-old : (p : ℕ) (now : List ℕ) → Filling dueNow n p due now → wordOf now p ≡ wordOf due p
   due-old p now filling = filling-old dueNow n p due now filling p (omega arith)
 
-  pub left-old : (p : ℕ) (now : List ℕ) → Filling leftNow n p left now → wordAt now p ≡ wordAt left p
+  pub left-old : (p : ℕ) (now : List ℕ) → Filling leftNow n p left now → wordOf now p ≡ wordOf left p
   left-old p now filling = filling-old leftNow n p left now filling p (omega arith)
 
   module _ (p : ℕ) (h : p < n) (leftThen dueThen : List ℕ) (lefts : Filling leftNow n p left leftThen) (dues : Filling dueNow n p due dueThen) where
     abbrev released : ℕ → ℕ
-    released more = on (eqb (wordAt dueThen p) t) more
+    released more = on (eqb (wordOf dueThen p) t) more
 
-    pub left-more : (next : List ℕ) → next ≡ set leftThen p (wordAt leftThen p + released (wordAt costs p)) → Filling leftNow n (p + 1) left next
+    pub left-more : (next : List ℕ) → next ≡ set leftThen p (wordOf leftThen p + released (wordOf costs p)) → Filling leftNow n (p + 1) left next
     left-more next e =
-        filling-set leftNow n p left leftThen next (wordAt leftThen p + released (wordAt costs p)) lefts h e
+        filling-set leftNow n p left leftThen next (wordOf leftThen p + released (wordOf costs p)) lefts h e
         (rw (left-old p leftThen lefts, due-old p dueThen dues))
 
-    pub due-more : (next : List ℕ) → next ≡ set dueThen p (wordAt dueThen p + released (wordAt periods p)) → Filling dueNow n (p + 1) due next
+    pub due-more : (next : List ℕ) → next ≡ set dueThen p (wordOf dueThen p + released (wordOf periods p)) → Filling dueNow n (p + 1) due next
     due-more next e =
-        filling-set dueNow n p due dueThen next (wordAt dueThen p + released (wordAt periods p)) dues h e
+        filling-set dueNow n p due dueThen next (wordOf dueThen p + released (wordOf periods p)) dues h e
         (rw (due-old p dueThen dues))
 
     pub releasing-more : (word next wordNext nextNext : ℕ) (dueAfter : List ℕ) → Releasing p word next →
-        dueAfter ≡ set dueThen p (wordAt dueThen p + released (wordAt periods p)) →
-        wordNext ≡ raisedBy (eqb (wordAt dueThen p) t) p word → nextNext ≡ min next (wordAt dueAfter p) → Releasing (p + 1) wordNext nextNext
+        dueAfter ≡ set dueThen p (wordOf dueThen p + released (wordOf periods p)) →
+        wordNext ≡ raisedBy (eqb (wordOf dueThen p) t) p word → nextNext ≡ min next (wordOf dueAfter p) → Releasing (p + 1) wordNext nextNext
     unfolding raised earliest
     releasing-more word next wordNext nextNext dueAfter r stored raise least =
         record {
@@ -105,10 +106,10 @@ module _ (periods costs : List ℕ) (n t : ℕ) (left due : List ℕ) (ready : �
 
   -- where nothing is due the slices hold what a release would leave
   module _ (next : ℕ) (held : StateHeld n t left due next) (early : t < next) where
-    later : (p : ℕ) → p < n → eqb (wordAt due p) t ≡ false
-    later p h = ne-eqb (wordAt due p) t (λ e. omega (arith, earliest-low (wordAt due) n p h, held .nextIs))
+    later : (p : ℕ) → p < n → eqb (wordOf due p) t ≡ false
+    later p h = ne-eqb (wordOf due p) t (λ e. omega (arith, earliest-low (wordOf due) n p h, held .nextIs))
 
-    none-raised : (p : ℕ) → p ≤ n → ready ≡ raised (wordAt due) t ready p
+    none-raised : (p : ℕ) → p ≤ n → ready ≡ raised (wordOf due) t ready p
     unfolding raised
     none-raised zero h = refl
     none-raised (suc p) h = rw (later p (omega arith)) (none-raised p (omega arith))
@@ -116,10 +117,10 @@ module _ (periods costs : List ℕ) (n t : ℕ) (left due : List ℕ) (ready : �
     pub nothing-due : Leaves n left due (releasedIn periods costs n t left due ready) left due ready next
     nothing-due =
         record {
-          leftIs = is-filled leftNow n left left (held .leftLong) refl (λ p h. rw (later p h) (sym (add-zero (wordAt left p)))) (λ p h. refl);
-          dueIs = is-filled dueNow n due due (held .dueLong) refl (λ p h. rw (later p h) (sym (add-zero (wordAt due p)))) (λ p h. refl);
+          leftIs = is-filled leftNow n left left (held .leftLong) refl (λ p h. rw (later p h) (sym (add-zero (wordOf left p)))) (λ p h. refl);
+          dueIs = is-filled dueNow n due due (held .dueLong) refl (λ p h. rw (later p h) (sym (add-zero (wordOf due p)))) (λ p h. refl);
           readyIs = none-raised n (omega arith);
           nextIs =
               held .nextIs
-              ∙ earliest-same (wordAt due) dueNow n (λ p h. rw (later p h) (sym (add-zero (wordAt due p))));
+              ∙ earliest-same (wordOf due) dueNow n (λ p h. rw (later p h) (sym (add-zero (wordOf due p))));
         }

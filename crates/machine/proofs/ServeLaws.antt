@@ -6,10 +6,11 @@ use mathlib.Core.Path.{_≡_, sym, _∙_, ap}
 use mathlib.Core.List.{List}
 use lib.Dec.{eqb}
 use lib.ListN.{length, set}
+use Rattle.model.specs.Lists.{wordOf}
 use Rattle.model.proofs.Lists.{getD-filled, length-filled}
 use Rattle.model.proofs.Filling.{filled-set}
 use Rattle.machine.specs.Machine.{State, nextPlace, leftAfter, readyAfter}
-use Rattle.machine.specs.Slices.{wordAt, Leaves, HasNext, releasedIn, servedIn, reportedIn}
+use Rattle.machine.specs.Slices.{Leaves, HasNext, releasedIn, servedIn, reportedIn}
 use Rattle.machine.proofs.MachineLaws.{after-own, after-other}
 
 module _ (periods costs : List ℕ) (n t : ℕ) (left due : List ℕ) (ready : ℕ) (few : n ≤ 32) (leftLong : n ≤ length left)
@@ -26,11 +27,11 @@ module _ (periods costs : List ℕ) (n t : ℕ) (left due : List ℕ) (ready : �
   pub place-in : place < n
   place-in = rw place-is (has .isPlace)
 
-  word-at : wordAt leftNow place ≡ state .left place
-  word-at = ap (λ (words : List ℕ). wordAt words place) (holds .leftIs) ∙ getD-filled (state .left) n place left 0 place-in
+  word-at : wordOf leftNow place ≡ state .left place
+  word-at = ap (λ (words : List ℕ). wordOf words place) (holds .leftIs) ∙ getD-filled (state .left) n place left 0 place-in
 
   -- what `serve` asks
-  pub serve-fits : (place < 32) × (place < length leftNow) × (1 ≤ wordAt leftNow place)
+  pub serve-fits : (place < 32) × (place < length leftNow) × (1 ≤ wordOf leftNow place)
   serve-fits = (
     omega (arith, place-in),
     rw (holds .leftIs, length-filled (state .left) n left leftLong) (omega (arith, place-in)),
@@ -38,15 +39,15 @@ module _ (periods costs : List ℕ) (n t : ℕ) (left due : List ℕ) (ready : �
   )
 
   -- what it leaves is the state after the tick
-  pub tick-served : (leftAfterwards : List ℕ) (rest : ℕ) → leftAfterwards ≡ set leftNow place (wordAt leftNow place - 1) →
-      rest ≡ readyAfter (eqb (wordAt leftNow place) 1) place readyNow →
+  pub tick-served : (leftAfterwards : List ℕ) (rest : ℕ) → leftAfterwards ≡ set leftNow place (wordOf leftNow place - 1) →
+      rest ≡ readyAfter (eqb (wordOf leftNow place) 1) place readyNow →
       Leaves n left due (servedIn periods costs n t left due ready) leftAfterwards dueNow rest next
   tick-served leftAfterwards rest stored cleared =
       record {
         leftIs =
             stored
-            ∙ ap (λ (words : List ℕ). set words place (wordAt leftNow place - 1)) (holds .leftIs)
-            ∙ filled-set (state .left) (leftAfter (state .left) (nextPlace (state .ready))) n place (wordAt leftNow place - 1) left leftLong place-in
+            ∙ ap (λ (words : List ℕ). set words place (wordOf leftNow place - 1)) (holds .leftIs)
+            ∙ filled-set (state .left) (leftAfter (state .left) (nextPlace (state .ready))) n place (wordOf leftNow place - 1) left leftLong place-in
             (ap (λ (x : ℕ). x - 1) word-at ∙ sym (after-own (state .left) (nextPlace (state .ready)) place place-is))
             (λ k h other. sym (after-other (state .left) (nextPlace (state .ready)) k (λ e. other (e ∙ sym place-is))));
         dueIs = holds .dueIs;
@@ -56,6 +57,6 @@ module _ (periods costs : List ℕ) (n t : ℕ) (left due : List ℕ) (ready : �
 
   -- and what it reports goes by the work that was there
   pub tick-reported : (deadline : ℕ) (answers now : List ℕ) →
-      now ≡ set answers place (reportedIn (wordAt leftNow place) t deadline (wordAt answers place)) →
-      now ≡ set answers place (reportedIn (state .left place) t deadline (wordAt answers place))
+      now ≡ set answers place (reportedIn (wordOf leftNow place) t deadline (wordOf answers place)) →
+      now ≡ set answers place (reportedIn (state .left place) t deadline (wordOf answers place))
   tick-reported deadline answers now stored = rw word-at at stored

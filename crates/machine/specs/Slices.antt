@@ -4,14 +4,10 @@ use Prim.Native.Nat.{ℕ, _+_, _≤_, _<_}
 use mathlib.Core.Path.{_≡_}
 use mathlib.Core.List.{List}
 use lib.Dec.{eqb, ltb}
-use lib.ListN.{length, getD}
+use lib.ListN.{length}
 use Rattle.model.specs.Choice.{pick, both}
-use Rattle.model.specs.Lists.{filled}
+use Rattle.model.specs.Lists.{filled, wordOf}
 use Rattle.machine.specs.Machine.{State, released, served, nextPlace, earliest}
-
--- the word at a place
-abbrev pub wordAt : List ℕ → ℕ → ℕ
-wordAt words p = getD words p 0
 
 -- n tasks stand in the slices, within document 01's limits: "T and C are 1 to 1,000,000. D is 1 to T."
 pub record TasksHeld (periods costs : List ℕ) (n : ℕ) : Type 0 where
@@ -19,22 +15,22 @@ pub record TasksHeld (periods costs : List ℕ) (n : ℕ) : Type 0 where
   pub few : n ≤ 32
   pub periodsLong : n ≤ length periods
   pub costsLong : n ≤ length costs
-  pub periodLow : (p : ℕ) → p < n → 1 ≤ wordAt periods p
-  pub periodHigh : (p : ℕ) → p < n → wordAt periods p ≤ 1000000
-  pub costLow : (p : ℕ) → p < n → 1 ≤ wordAt costs p
-  pub costHigh : (p : ℕ) → p < n → wordAt costs p ≤ 1000000
+  pub periodLow : (p : ℕ) → p < n → 1 ≤ wordOf periods p
+  pub periodHigh : (p : ℕ) → p < n → wordOf periods p ≤ 1000000
+  pub costLow : (p : ℕ) → p < n → 1 ≤ wordOf costs p
+  pub costHigh : (p : ℕ) → p < n → wordOf costs p ≤ 1000000
 
 pub record DeadlinesHeld (periods deadlines : List ℕ) (n : ℕ) : Type 0 where
   pub long : n ≤ length deadlines
-  pub high : (p : ℕ) → p < n → wordAt deadlines p ≤ wordAt periods p
+  pub high : (p : ℕ) → p < n → wordOf deadlines p ≤ wordOf periods p
 
 -- the state that two slices and a word hold
 abbrev pub stateIn : (left due : List ℕ) (ready : ℕ) → State
-stateIn left due ready = record { left = wordAt left; due = wordAt due; ready = ready }
+stateIn left due ready = record { left = wordOf left; due = wordOf due; ready = ready }
 
 -- with the releases of tick t, and after the tick
 abbrev pub releasedIn : (periods costs : List ℕ) (n t : ℕ) (left due : List ℕ) (ready : ℕ) → State
-releasedIn periods costs n t left due ready = released (wordAt periods) (wordAt costs) n t (stateIn left due ready)
+releasedIn periods costs n t left due ready = released (wordOf periods) (wordOf costs) n t (stateIn left due ready)
 
 abbrev pub servedIn : (periods costs : List ℕ) (n t : ℕ) (left due : List ℕ) (ready : ℕ) → State
 servedIn periods costs n t left due ready = served (releasedIn periods costs n t left due ready)
@@ -44,9 +40,9 @@ servedIn periods costs n t left due ready = served (releasedIn periods costs n t
 pub record StateHeld (n t : ℕ) (left due : List ℕ) (next : ℕ) : Type 0 where
   pub leftLong : n ≤ length left
   pub dueLong : n ≤ length due
-  pub leftHigh : (p : ℕ) → p < n → wordAt left p ≤ 1000000000000
-  pub dueHigh : (p : ℕ) → p < n → wordAt due p ≤ 2000000
-  pub nextIs : next ≡ earliest (wordAt due) n
+  pub leftHigh : (p : ℕ) → p < n → wordOf left p ≤ 1000000000000
+  pub dueHigh : (p : ℕ) → p < n → wordOf due p ≤ 2000000
+  pub nextIs : next ≡ earliest (wordOf due) n
   pub notPast : t ≤ next
 
 -- what a tick, or its releases, leave in the slices: a state in place of another, and the earliest tick at which something is due

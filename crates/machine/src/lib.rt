@@ -4,9 +4,9 @@ ghost use Prim.Native.Nat.{_+_, _-_, _≤_, _<_};
 ghost use lib.Dec.{eqb, ltb};
 ghost use lib.ListN.{length, set};
 ghost use Rattle.model.specs.Choice.{pick};
-ghost use Rattle.model.specs.Lists.{filled, largestTo};
+ghost use Rattle.model.specs.Lists.{filled, largestTo, wordOf};
 ghost use Rattle.machine.specs.Machine as spec;
-ghost use Rattle.machine.specs.Slices.{wordAt, TasksHeld, DeadlinesHeld, StateHeld, Leaves, HasNext, releasedIn, servedIn, reportedIn};
+ghost use Rattle.machine.specs.Slices.{TasksHeld, DeadlinesHeld, StateHeld, Leaves, HasNext, releasedIn, servedIn, reportedIn};
 use model::Place;
 use model::Ticks;
 use model::larger;
@@ -33,7 +33,7 @@ fn next_place(ready: u32) -> Place
 // the period, there is no work but the first job's.
 fn report(deadlines: &[u32], at: Ticks, place: Place, answers: &mut [u32])
     requires { ⌜ (place .0 < length (now deadlines)) × (place .0 < length (now answers)) × (at .0 < 1000000) ⌝ }
-    ensures { λ r. ⌜ now (answers .exit) ≡ set (now (answers .entry)) (place .0) (pick (ltb (at .0) (wordAt (now (deadlines .entry)) (place .0))) (at .0 + 1) (wordAt (now (answers .entry)) (place .0))) ⌝ }
+    ensures { λ r. ⌜ now (answers .exit) ≡ set (now (answers .entry)) (place .0) (pick (ltb (at .0) (wordOf (now (deadlines .entry)) (place .0))) (at .0 + 1) (wordOf (now (answers .entry)) (place .0))) ⌝ }
 {
     let p = place.0;
     if deadlines[p] <= at.0 {
@@ -51,11 +51,11 @@ fn serve(
     at: Ticks,
     answers: &mut [u32],
 ) -> u32
-    requires { ⌜ (place .0 < 32) × (place .0 < length (now left)) × (1 ≤ wordAt (now left) (place .0)) ⌝ }
+    requires { ⌜ (place .0 < 32) × (place .0 < length (now left)) × (1 ≤ wordOf (now left) (place .0)) ⌝ }
     requires { ⌜ (place .0 < length (now deadlines)) × (place .0 < length (now answers)) × (at .0 < 1000000) ⌝ }
-    ensures { λ r. ⌜ now (left .exit) ≡ set (now (left .entry)) (place .0) (wordAt (now (left .entry)) (place .0) - 1) ⌝ }
-    ensures { λ r. ⌜ r ≡ spec.readyAfter (eqb (wordAt (now (left .entry)) (place .0)) 1) (place .0) ready ⌝ }
-    ensures { λ r. ⌜ now (answers .exit) ≡ set (now (answers .entry)) (place .0) (reportedIn (wordAt (now (left .entry)) (place .0)) (at .0) (wordAt (now (deadlines .entry)) (place .0)) (wordAt (now (answers .entry)) (place .0))) ⌝ }
+    ensures { λ r. ⌜ now (left .exit) ≡ set (now (left .entry)) (place .0) (wordOf (now (left .entry)) (place .0) - 1) ⌝ }
+    ensures { λ r. ⌜ r ≡ spec.readyAfter (eqb (wordOf (now (left .entry)) (place .0)) 1) (place .0) ready ⌝ }
+    ensures { λ r. ⌜ now (answers .exit) ≡ set (now (answers .entry)) (place .0) (reportedIn (wordOf (now (left .entry)) (place .0)) (at .0) (wordOf (now (deadlines .entry)) (place .0)) (wordOf (now (answers .entry)) (place .0))) ⌝ }
 {
     let p = place.0;
     let rest = left[p] - 1;
@@ -86,7 +86,7 @@ pub fn step(
     requires { ⌜ HasNext n (releasedIn (now periods) (now costs) n (at .0) (now left) (now due) ready) ⌝ }
     ensures { λ r. ⌜ Leaves n (now (left .entry)) (now (due .entry)) (servedIn (now (periods .entry)) (now (costs .entry)) n (at .0) (now (left .entry)) (now (due .entry)) ready) (now (left .exit)) (now (due .exit)) (r .ready) (r .next .0) ⌝ }
     ensures { λ r. ⌜ r .place .0 ≡ spec.nextPlace (releasedIn (now (periods .entry)) (now (costs .entry)) n (at .0) (now (left .entry)) (now (due .entry)) ready .ready) ⌝ }
-    ensures { λ r. ⌜ now (answers .exit) ≡ set (now (answers .entry)) (r .place .0) (reportedIn (releasedIn (now (periods .entry)) (now (costs .entry)) n (at .0) (now (left .entry)) (now (due .entry)) ready .left (r .place .0)) (at .0) (wordAt (now (deadlines .entry)) (r .place .0)) (wordAt (now (answers .entry)) (r .place .0))) ⌝ }
+    ensures { λ r. ⌜ now (answers .exit) ≡ set (now (answers .entry)) (r .place .0) (reportedIn (releasedIn (now (periods .entry)) (now (costs .entry)) n (at .0) (now (left .entry)) (now (due .entry)) ready .left (r .place .0)) (at .0) (wordOf (now (deadlines .entry)) (r .place .0)) (wordOf (now (answers .entry)) (r .place .0))) ⌝ }
 {
     let released = release(periods, costs, n, at, left, due, ready, next);
     let place = next_place(released.ready);
@@ -112,7 +112,7 @@ fn clear(n: usize, answers: &mut [u32])
 // The largest of n counts of ticks.
 pub fn largest(words: &[u32], n: usize) -> Ticks
     requires { ⌜ n ≤ length (now words) ⌝ }
-    ensures { λ r. ⌜ r .0 ≡ largestTo (wordAt (now (words .entry))) n ⌝ }
+    ensures { λ r. ⌜ r .0 ≡ largestTo (wordOf (now (words .entry))) n ⌝ }
 {
     let mut found: u32 = 0;
     for i in 0..n {
@@ -127,7 +127,7 @@ pub fn play_all(periods: &[u32], costs: &[u32], deadlines: &[u32], n: usize, ans
     requires { ⌜ TasksHeld (now periods) (now costs) n ⌝ }
     requires { ⌜ DeadlinesHeld (now periods) (now deadlines) n ⌝ }
     requires { ⌜ n ≤ length (now answers) ⌝ }
-    ensures { λ r. ⌜ now (answers .exit) ≡ filled (spec.played (wordAt (now (periods .entry))) (wordAt (now (costs .entry))) n (wordAt (now (deadlines .entry)))) n (now (answers .entry)) ⌝ }
+    ensures { λ r. ⌜ now (answers .exit) ≡ filled (spec.played (wordOf (now (periods .entry))) (wordOf (now (costs .entry))) n (wordOf (now (deadlines .entry)))) n (now (answers .entry)) ⌝ }
 {
     clear(n, answers);
     let limit = largest(deadlines, n);

@@ -3,9 +3,10 @@ ghost use mathlib.Core.Path.{_≡_};
 ghost use Prim.Native.Nat.{_+_, _≤_, _<_, min};
 ghost use lib.Dec.{eqb};
 ghost use lib.ListN.{length, set};
+ghost use Rattle.model.specs.Lists.{wordOf};
 ghost use Rattle.model.specs.Choice.{on};
 ghost use Rattle.machine.specs.Machine as spec;
-ghost use Rattle.machine.specs.Slices.{wordAt, TasksHeld, StateHeld, Leaves, releasedIn};
+ghost use Rattle.machine.specs.Slices.{TasksHeld, StateHeld, Leaves, releasedIn};
 use model::Place;
 use model::Ticks;
 
@@ -40,10 +41,10 @@ fn release_one(
     ready: u32,
 ) -> u32
     requires { ⌜ (place .0 < 32) × (place .0 < length (now left)) × (place .0 < length (now due)) ⌝ }
-    requires { ⌜ (period .0 ≤ 1000000) × (cost .0 ≤ 1000000) × (wordAt (now left) (place .0) ≤ 1000000000000) × (wordAt (now due) (place .0) ≤ 2000000) ⌝ }
-    ensures { λ r. ⌜ now (left .exit) ≡ set (now (left .entry)) (place .0) (wordAt (now (left .entry)) (place .0) + on (eqb (wordAt (now (due .entry)) (place .0)) (at .0)) (cost .0)) ⌝ }
-    ensures { λ r. ⌜ now (due .exit) ≡ set (now (due .entry)) (place .0) (wordAt (now (due .entry)) (place .0) + on (eqb (wordAt (now (due .entry)) (place .0)) (at .0)) (period .0)) ⌝ }
-    ensures { λ r. ⌜ r ≡ spec.raisedBy (eqb (wordAt (now (due .entry)) (place .0)) (at .0)) (place .0) ready ⌝ }
+    requires { ⌜ (period .0 ≤ 1000000) × (cost .0 ≤ 1000000) × (wordOf (now left) (place .0) ≤ 1000000000000) × (wordOf (now due) (place .0) ≤ 2000000) ⌝ }
+    ensures { λ r. ⌜ now (left .exit) ≡ set (now (left .entry)) (place .0) (wordOf (now (left .entry)) (place .0) + on (eqb (wordOf (now (due .entry)) (place .0)) (at .0)) (cost .0)) ⌝ }
+    ensures { λ r. ⌜ now (due .exit) ≡ set (now (due .entry)) (place .0) (wordOf (now (due .entry)) (place .0) + on (eqb (wordOf (now (due .entry)) (place .0)) (at .0)) (period .0)) ⌝ }
+    ensures { λ r. ⌜ r ≡ spec.raisedBy (eqb (wordOf (now (due .entry)) (place .0)) (at .0)) (place .0) ready ⌝ }
 {
     let p = place.0;
     if due[p] != at.0 {

@@ -3,7 +3,7 @@
 use Prim.Native.Nat.{ℕ, zero, suc, _+_, max}
 use mathlib.Core.Bool.{Bool}
 use mathlib.Core.List.{List, [], _∷_, _++_}
-use lib.ListN.{drop}
+use lib.ListN.{drop, getD}
 use Rattle.model.specs.Choice.{pick}
 
 module _ {A : Type 0} where
@@ -40,3 +40,7 @@ total f (suc n) = total f n + f n
 unfoldable pub largestTo : (ℕ → ℕ) → ℕ → ℕ
 largestTo f zero = 0
 largestTo f (suc n) = max (largestTo f n) (f n)
+
+-- what stands at a place of a slice
+abbrev pub wordOf : List ℕ → ℕ → ℕ
+wordOf words i = getD words i 0

@@ -12,7 +12,7 @@ use lib.Dec.{eqb, ltb}
 use lib.ListN.{length, getD}
 use borrow.Author.Tests.{eqb-true, eqb-false, ltb-true, ltb-false, eq-eqb, ne-eqb}
 use Rattle.model.specs.Choice.{pick, either}
-use Rattle.model.specs.Lists.{filled, tabulate, largestOf}
+use Rattle.model.specs.Lists.{filled, tabulate, largestOf, wordOf}
 use Rattle.model.specs.Tables.{Table, Task, taskOf, loadsOf}
 use Rattle.model.proofs.Lists.{getD-filled, getD-filled-past, length-filled}
 use Rattle.model.proofs.Tests.{bool?, clash, not-either, either-true}
@@ -39,7 +39,7 @@ use Rattle.response.specs.Verdicts.{isSchedulable}
 use Rattle.response.specs.Analysis.{baseOf, answerOf, roundsOf}
 use Rattle.response.specs.Outcome.{Outcome, lateIf, lateAt, resultOf, verdictFor, verdictOf, answersAfter, roundsAfter}
 use Rattle.response.specs.Statements as says
-use Rattle.response.specs.Statements.{AnswerRight, RoundsRight, ResultRight, Written, wordOf}
+use Rattle.response.specs.Statements.{AnswerRight, RoundsRight, ResultRight, Written}
 use Rattle.response.proofs.PlaceLaws.{schedulable-only}
 use Rattle.response.proofs.TableLaws.{task-is, tasks-count, tasks-fit}
 

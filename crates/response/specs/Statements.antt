@@ -5,7 +5,8 @@ use Prim.Native.Nat.{ℕ, zero, suc, _+_, _-_, _≤_, _<_}
 use mathlib.Core.Path.{_≡_}
 use mathlib.Core.Logic.{_⊎_}
 use mathlib.Core.List.{List}
-use lib.ListN.{length, getD}
+use lib.ListN.{length}
+use Rattle.model.specs.Lists.{wordOf}
 use Rattle.model.specs.Tables.{Table, taskOf, loadsOf}
 use Rattle.tables.specs.declared.Refusal.{Refusal}
 use Rattle.tables.specs.Layout.{taskCount, rowCount, tasksOf, tableOf}
@@ -69,10 +70,6 @@ ResultRight answers n (Refused refusal) = ⊥
 ResultRight answers n Schedulable = (i : ℕ) → i < n → 1 ≤ answers i
 ResultRight answers n (Late place) =
     (place .0 < n) × (answers (place .0) ≡ 0) × ((i : ℕ) → i < place .0 → 1 ≤ answers i)
-
--- what stands at a place of a slice
-abbrev pub wordOf : List ℕ → ℕ → ℕ
-wordOf words i = getD words i 0
 
 -- "Otherwise words 0 to n−1 of each answer slice are written, answers in the first and rounds in the second, later words stay"
 pub record Written (bytes answers rounds : List ℕ) (verdict : Verdict) (answersLeft roundsLeft : List ℕ) : Type 0 where

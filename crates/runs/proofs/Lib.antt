@@ -2,7 +2,7 @@ pub mod Sums
 pub mod Windows
 pub mod Counting
 pub mod Served
-pub mod Engine
+pub mod BusyWindow
 pub mod Loads
 pub mod Upper
 pub mod Lists

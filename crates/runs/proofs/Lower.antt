@@ -16,7 +16,7 @@ use Rattle.runs.specs.Schedule.{serves, Schedule, servedBefore, Finished
 use Rattle.runs.specs.Synchronous.{synchronous, FirstJob}
 use Rattle.runs.proofs.Windows.{isBefore}
 use Rattle.runs.proofs.Served.{served-grows, count-is}
-use Rattle.runs.proofs.Engine.{Quiet, worked-slow, quiet-asked}
+use Rattle.runs.proofs.BusyWindow.{Quiet, worked-slow, quiet-asked}
 use Rattle.runs.proofs.Loads.{not-later}
 use Rattle.runs.proofs.Together.{synchronous-legal, only-first, asked-demand}
 

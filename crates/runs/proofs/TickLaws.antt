@@ -22,7 +22,7 @@ use Rattle.runs.specs.Synchronous.{synchronous, stillNeeded, workLeft, F
 use Rattle.runs.proofs.Sums.{total-same, total-add}
 use Rattle.runs.proofs.Windows.{within, needOf, isOf}
 use Rattle.runs.proofs.Served.{ServesReady, served-most, served-none}
-use Rattle.runs.proofs.Engine.{Quiet, asked, worked, workedOn, added, added-idle, added-serves, worked-next, quiet-asked, quiet-next, asked-quiet}
+use Rattle.runs.proofs.BusyWindow.{Quiet, asked, worked, workedOn, added, added-idle, added-serves, worked-next, quiet-asked, quiet-next, asked-quiet}
 use Rattle.runs.proofs.Loads.{shareOf, not-later}
 use Rattle.runs.proofs.Together.{synchronous-legal, only-first, asked-place}
 

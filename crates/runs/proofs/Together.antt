@@ -23,11 +23,11 @@ use Rattle.equation.specs.Demand.{demand}
 use Rattle.equation.proofs.Laws.{roundingUp}
 use Rattle.equation.proofs.RoundingLaws.{positive}
 use Rattle.runs.specs.Jobs.{Job, noJob, jobOf, TasksFit, NoJitter, LegalJobs}
-use Rattle.runs.specs.Synchronous.{jobAt, jobsAt, jobsBefore, synchronous, FirstJob}
+use Rattle.runs.specs.Synchronous.{jobAt, jobsAt, jobsBefore, synchronous, FirstJob, SynchronousIsRun}
 use Rattle.runs.proofs.Sums.{total-mono, total-zero, total-point, total-grows, total-first, sum-total, sum-tabulate}
 use Rattle.runs.proofs.Lists.{append-at, each-append}
 use Rattle.runs.proofs.Windows.{within, within-is, within?, needOf, isOf, isBefore}
-use Rattle.runs.proofs.Engine.{asked}
+use Rattle.runs.proofs.BusyWindow.{asked}
 use Rattle.runs.proofs.Loads.{shareOf, demand-is}
 
 -- what the run asks of one job
@@ -250,3 +250,7 @@ module _ (tasks : List Task) (fit : TasksFit tasks) (ticks : ℕ) where
           total-grows share (suc i) (more .0),
           ap (total share) (more .1),
         ))
+
+pub synchronousIsRun : SynchronousIsRun
+synchronousIsRun tasks fit ticks =
+    record { legalJobs = synchronous-legal tasks fit ticks; firstJob = first-job tasks fit ticks }

@@ -17,7 +17,7 @@ use Rattle.runs.specs.Schedule.{Schedule, Finished, LegalSchedule}
 use Rattle.runs.proofs.Sums.{total-mono}
 use Rattle.runs.proofs.Windows.{released, released-places, needOf, isOf, isBefore}
 use Rattle.runs.proofs.Counting.{asks}
-use Rattle.runs.proofs.Engine.{Favours, finished-within}
+use Rattle.runs.proofs.BusyWindow.{Favours, finished-within}
 use Rattle.runs.proofs.Loads.{shareOf, not-later, demand-is}
 
 module _ (tasks : List Task) (fit : TasksFit tasks) (ticks : ℕ) (jobs : List Job) (legal : LegalJobs tasks ticks jobs) where

@@ -10,7 +10,7 @@ use Rattle.model.specs.Choice.{both, on}
 use Rattle.model.specs.Lists.{tabulate, total}
 use Rattle.model.specs.Tables.{Task, taskOf}
 use Rattle.equation.specs.Rounding.{ceilDiv}
-use Rattle.runs.specs.Jobs.{Job, jobOf, TasksFit, NoJitter}
+use Rattle.runs.specs.Jobs.{Job, jobOf, TasksFit, NoJitter, LegalJobs}
 use Rattle.runs.specs.Schedule.{Schedule, servedBefore, Finished, LegalSchedule}
 use Rattle.runs.specs.Statement.{responseOf}
 
@@ -45,6 +45,14 @@ pub record FirstJob (jobs : List Job) (i j : ℕ) : Type 0 where
   pub isJob : j < length jobs
   pub isOwn : jobOf jobs j .place ≡ i
   pub atOnce : jobOf jobs j .release ≡ 0
+
+-- These are the jobs of a run of document 01, for any number of ticks, and each task has a first job in it.
+pub record IsRun (tasks : List Task) (ticks : ℕ) : Type 0 where
+  pub legalJobs : LegalJobs tasks ticks (synchronous tasks ticks)
+  pub firstJob : 1 ≤ ticks → (i : ℕ) → i < length tasks → (j : ℕ) × FirstJob (synchronous tasks ticks) i j
+
+abbrev pub SynchronousIsRun : Type 0
+SynchronousIsRun = (tasks : List Task) → TasksFit tasks → (ticks : ℕ) → IsRun tasks ticks
 
 -- What the answer of place i says of its first job j in this run: it is finished at tick x exactly if the answer is not 0 and at
 -- most x.

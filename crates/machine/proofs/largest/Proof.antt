@@ -3,14 +3,13 @@
 use Prim.Native.Nat.{_-_, _≤_}
 use native.Mathlib.Omega.{arith}
 use mathlib.Core.Path.{_≡_}
-use Rattle.model.specs.Lists.{largestTo}
-use Rattle.machine.specs.Slices.{wordAt}
+use Rattle.model.specs.Lists.{largestTo, wordOf}
 use Rattle.machine.proofs.StepLaws.{largest-first, largest-next, largest-all}
 use Rattle.machine.proofs.largest.Statement.{statement}
 use Rattle.machine.proofs.largest.Tie as tie
 
 abbrev Inv-loop : tie.InvT-loop
-Inv-loop words n found₀ i₀ found i = (found ≡ largestTo (wordAt words) i) × (i ≤ n)
+Inv-loop words n found₀ i₀ found i = (found ≡ largestTo (wordOf words) i) × (i ≤ n)
 
 abbrev μ-loop : tie.MeasureT-loop
 μ-loop words n found₀ i₀ found i = n - i

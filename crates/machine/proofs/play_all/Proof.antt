@@ -3,8 +3,7 @@
 use Prim.Native.Nat.{_-_}
 use native.Mathlib.Omega.{arith}
 use mathlib.Core.Path.{_≡_, sym}
-use Rattle.model.specs.Lists.{filled}
-use Rattle.machine.specs.Slices.{wordAt}
+use Rattle.model.specs.Lists.{filled, wordOf}
 use Rattle.machine.proofs.ReportLaws.{reported}
 use Rattle.machine.proofs.PlayLaws.{Playing, playing-none, state-held, has-next, playing-more, told-none, told-more, told-all, told-late, told-over, told-long, limit-high}
 use Rattle.machine.proofs.play_all.Statement.{statement}
@@ -13,7 +12,7 @@ use Rattle.machine.proofs.play_all.Tie as tie
 abbrev Inv-loop : tie.InvT-loop
 Inv-loop periods costs deadlines n answers₀ limit left₀ due₀ ready₀ next₀ at₀ answers left due ready next at =
     Playing periods costs n at left due ready next
-    × (answers ≡ filled (reported (wordAt periods) (wordAt costs) n (wordAt deadlines) at) n answers₀)
+    × (answers ≡ filled (reported (wordOf periods) (wordOf costs) n (wordOf deadlines) at) n answers₀)
 
 abbrev μ-loop : tie.MeasureT-loop
 μ-loop periods costs deadlines n answers₀ limit left₀ due₀ ready₀ next₀ at₀ answers left due ready next at = limit .0 - at

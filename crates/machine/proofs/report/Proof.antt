@@ -1,7 +1,7 @@
 -- `machine::report` meets its contract: the word at the place is written, or stays.
 -- Assumes nothing.
 use borrow.Author.Needs.{needs}
-use Rattle.machine.specs.Slices.{wordAt}
+use Rattle.model.specs.Lists.{wordOf}
 use Rattle.machine.proofs.StepLaws.{too-late, in-time}
 use Rattle.machine.proofs.report.Statement.{statement}
 use Rattle.machine.proofs.report.Tie as tie
@@ -15,7 +15,7 @@ shared-slice-read-if1 c = search needs
 returns : tie.Need-returns
 returns c =
     let a = c .before .before .before .args in
-    too-late (a .answers .now) (a .place .0) (a .at .0) (wordAt (a .deadlines .now) (a .place .0)) (c .if1 .taken)
+    too-late (a .answers .now) (a .place .0) (a .at .0) (wordOf (a .deadlines .now) (a .place .0)) (c .if1 .taken)
 
 add-answers : tie.Need-add-answers
 add-answers c = search needs
@@ -32,7 +32,7 @@ same-length c = search needs
 returns-2 : tie.Need-returns-2
 returns-2 c =
     let a = c .before .before .before .before .args in
-    in-time (a .answers .now) (a .place .0) (a .at .0) (wordAt (a .deadlines .now) (a .place .0)) (c .before .if1 .left)
+    in-time (a .answers .now) (a .place .0) (a .at .0) (wordOf (a .deadlines .now) (a .place .0)) (c .before .if1 .left)
 
 pub report-spec : {M : Type 1} → statement M
 report-spec =

@@ -1,8 +1,8 @@
 -- `machine::serve` meets its contract: the bit goes with the last tick of work.
 -- Assumes nothing.
 use borrow.Author.Needs.{needs}
-use Rattle.machine.specs.Slices.{wordAt}
 use mathlib.Core.Path.{refl}
+use Rattle.model.specs.Lists.{wordOf}
 use Rattle.machine.proofs.StepLaws.{last-served, last-reported, more-left, none-reported}
 use Rattle.machine.proofs.serve.Statement.{statement}
 use Rattle.machine.proofs.serve.Tie as tie
@@ -30,8 +30,8 @@ returns c =
     let a = c .before .before .before .before .before .args in (
       refl,
       (
-        more-left _ (a .place .0) (a .ready) (a .at .0) (wordAt (a .deadlines .now) (a .place .0)) (a .answers .now) (c .if1 .taken),
-        none-reported _ (a .place .0) (a .ready) (a .at .0) (wordAt (a .deadlines .now) (a .place .0)) (a .answers .now) (c .if1 .taken),
+        more-left _ (a .place .0) (a .ready) (a .at .0) (wordOf (a .deadlines .now) (a .place .0)) (a .answers .now) (c .if1 .taken),
+        none-reported _ (a .place .0) (a .ready) (a .at .0) (wordOf (a .deadlines .now) (a .place .0)) (a .answers .now) (c .if1 .taken),
       ),
     )
 
@@ -53,8 +53,8 @@ returns-2 c =
     let some = c .before .before .before .before .before .before .before .before .before .before .pre .0 .2 in (
       refl,
       (
-        last-served _ (a .place .0) (a .ready) (a .at .0) (wordAt (a .deadlines .now) (a .place .0)) (a .answers .now) _ some (c .before .before .before .before .before .if1 .left) (c .mask .ensures),
-        last-reported _ (a .place .0) (a .ready) (a .at .0) (wordAt (a .deadlines .now) (a .place .0)) (a .answers .now) _ some (c .before .before .before .before .before .if1 .left) (c .before .before .before .report .ensures),
+        last-served _ (a .place .0) (a .ready) (a .at .0) (wordOf (a .deadlines .now) (a .place .0)) (a .answers .now) _ some (c .before .before .before .before .before .if1 .left) (c .mask .ensures),
+        last-reported _ (a .place .0) (a .ready) (a .at .0) (wordOf (a .deadlines .now) (a .place .0)) (a .answers .now) _ some (c .before .before .before .before .before .if1 .left) (c .before .before .before .report .ensures),
       ),
     )
 

@@ -2,7 +2,7 @@
 -- Assumes nothing.
 use borrow.Author.Needs.{needs}
 use native.Mathlib.Omega.{arith}
-use Rattle.machine.specs.Slices.{wordAt}
+use Rattle.model.specs.Lists.{wordOf}
 use Rattle.machine.proofs.ServeLaws.{place-is, place-in, serve-fits, tick-served, tick-reported}
 use Rattle.machine.proofs.step.Statement.{statement}
 use Rattle.machine.proofs.step.Tie as tie
@@ -39,7 +39,7 @@ returns c =
       tick-served (a .periods .now) (a .costs .now) (a .n) (a .at .0) (a .left .now) (a .due .now) (a .ready) (p .0 .few) (p .1 .1 .0 .leftLong) (p .1 .1 .1) _ _ _ _ _ (c .before .before .before .before .before .before .before .before .before .before .before .before .before .release .ensures) (c .before .before .before .before .before .before .before .before .next-place .ensures) _ _ (e .0) (e .1 .0),
       (
         place-is (a .periods .now) (a .costs .now) (a .n) (a .at .0) (a .left .now) (a .due .now) (a .ready) (p .0 .few) (p .1 .1 .0 .leftLong) (p .1 .1 .1) _ _ _ _ _ (c .before .before .before .before .before .before .before .before .before .before .before .before .before .release .ensures) (c .before .before .before .before .before .before .before .before .next-place .ensures),
-        tick-reported (a .periods .now) (a .costs .now) (a .n) (a .at .0) (a .left .now) (a .due .now) (a .ready) (p .0 .few) (p .1 .1 .0 .leftLong) (p .1 .1 .1) _ _ _ _ _ (c .before .before .before .before .before .before .before .before .before .before .before .before .before .release .ensures) (c .before .before .before .before .before .before .before .before .next-place .ensures) (wordAt (a .deadlines .now) (c .before .before .before .before .before .before .before .before .next-place .result .0)) (a .answers .now) _ (e .1 .1),
+        tick-reported (a .periods .now) (a .costs .now) (a .n) (a .at .0) (a .left .now) (a .due .now) (a .ready) (p .0 .few) (p .1 .1 .0 .leftLong) (p .1 .1 .1) _ _ _ _ _ (c .before .before .before .before .before .before .before .before .before .before .before .before .before .release .ensures) (c .before .before .before .before .before .before .before .before .next-place .ensures) (wordOf (a .deadlines .now) (c .before .before .before .before .before .before .before .before .next-place .result .0)) (a .answers .now) _ (e .1 .1),
       ),
     )
 

@@ -3,7 +3,7 @@
 use Prim.Native.Nat.{_-_, _≤_}
 use native.Mathlib.Omega.{arith}
 use mathlib.Core.Path.{_≡_}
-use Rattle.machine.specs.Slices.{wordAt}
+use Rattle.model.specs.Lists.{wordOf}
 use Rattle.response.specs.declared.Verdict.the-variants.{Schedulable}
 use Rattle.response.specs.Outcome.{resultOf}
 use Rattle.engine.proofs.PlayedLaws.{result-none, result-on, result-late, result-all}
@@ -11,13 +11,13 @@ use Rattle.engine.proofs.stages.result.Statement.{statement}
 use Rattle.engine.proofs.stages.result.Tie as tie
 
 abbrev Inv-loop : tie.InvT-loop
-Inv-loop answers n i₀ i = (resultOf (wordAt answers) i ≡ Schedulable) × (i ≤ n)
+Inv-loop answers n i₀ i = (resultOf (wordOf answers) i ≡ Schedulable) × (i ≤ n)
 
 abbrev μ-loop : tie.MeasureT-loop
 μ-loop answers n i₀ i = n - i
 
 loop-holds : tie.Need-loop-holds Inv-loop μ-loop
-loop-holds c = (result-none (wordAt (c .args .answers .now)), omega arith)
+loop-holds c = (result-none (wordOf (c .args .answers .now)), omega arith)
 
 mul-if1 : tie.Need-mul-if1 Inv-loop μ-loop
 mul-if1 c = omega arith
@@ -26,7 +26,7 @@ shared-slice-read-if1 : tie.Need-shared-slice-read-if1 Inv-loop μ-loop
 shared-slice-read-if1 c = omega (arith, c .before .before .before .pre, c .before .loop-test .taken)
 
 returns : tie.Need-returns Inv-loop μ-loop
-returns c = result-late (wordAt (c .before .before .before .before .args .answers .now)) _ _ (c .before .before .before .loop .inv .0) (c .if1 .taken) (c .before .before .loop-test .taken)
+returns c = result-late (wordOf (c .before .before .before .before .args .answers .now)) _ _ (c .before .before .before .loop .inv .0) (c .if1 .taken) (c .before .before .loop-test .taken)
 
 add-i : tie.Need-add-i Inv-loop μ-loop
 add-i c = omega arith
@@ -35,10 +35,10 @@ loop-less : tie.Need-loop-less Inv-loop μ-loop
 loop-less c = omega arith
 
 loop-again : tie.Need-loop-again Inv-loop μ-loop
-loop-again c = (result-on (wordAt (c .before .before .before .before .args .answers .now)) _ (c .before .before .before .loop .inv .0) (c .if1 .left), omega (arith, c .before .before .loop-test .taken))
+loop-again c = (result-on (wordOf (c .before .before .before .before .args .answers .now)) _ (c .before .before .before .loop .inv .0) (c .if1 .left), omega (arith, c .before .before .loop-test .taken))
 
 returns-2 : tie.Need-returns-2 Inv-loop μ-loop
-returns-2 c = result-all (wordAt (c .before .before .args .answers .now)) _ _ (c .before .loop .inv .0) (c .before .loop .inv .1) (c .loop-test .left)
+returns-2 c = result-all (wordOf (c .before .before .args .answers .now)) _ _ (c .before .loop .inv .0) (c .before .loop .inv .1) (c .loop-test .left)
 
 pub result-spec : {M : Type 1} → statement M
 result-spec =

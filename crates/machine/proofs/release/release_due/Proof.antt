@@ -2,9 +2,9 @@
 -- Assumes nothing.
 use Prim.Native.Nat.{_-_}
 use native.Mathlib.Omega.{arith}
+use Rattle.model.specs.Lists.{wordOf}
 use Rattle.model.proofs.Filling.{Filling, filling-none, filling-old}
 use Rattle.machine.specs.Machine.{leftWith, dueWith}
-use Rattle.machine.specs.Slices.{wordAt}
 use Rattle.machine.proofs.ReleaseLaws.{Releasing, releasing-none, releasing-more, left-more, due-more, all-released}
 use Rattle.machine.proofs.release.release_due.Statement.{statement}
 use Rattle.machine.proofs.release.release_due.Tie as tie
@@ -12,8 +12,8 @@ use Rattle.machine.proofs.release.release_due.Tie as tie
 abbrev Inv-loop : tie.InvT-loop
 Inv-loop periods costs n at left₀ due₀ ready word₀ earliest₀ p₀ left due word earliest p =
     Releasing periods costs n (at .0) left₀ due₀ ready p word earliest
-    × Filling (leftWith (wordAt costs) (wordAt due₀) (at .0) (wordAt left₀)) n p left₀ left
-    × Filling (dueWith (wordAt periods) (wordAt due₀) (at .0)) n p due₀ due
+    × Filling (leftWith (wordOf costs) (wordOf due₀) (at .0) (wordOf left₀)) n p left₀ left
+    × Filling (dueWith (wordOf periods) (wordOf due₀) (at .0)) n p due₀ due
 
 abbrev μ-loop : tie.MeasureT-loop
 μ-loop periods costs n at left₀ due₀ ready word₀ earliest₀ p₀ left due word earliest p = n - p
