@@ -1699,8 +1699,8 @@ table's bytes. Both slices are lent filled with the word %d (0x%X).
 a line "stayed", and a line "engine" with the engine's verdict or refusal; the engine is lent a
 slice of as many words as that for answers. (A program under test prints "changed" instead of
 "stayed" if a word past n, or any word on a refusal, is no longer the filler; and a further line
-"differs" if the engine's answers are not the analysis's, or "changed" if it changed a word that
-must stay.)
+"differs" if the engine's verdict or words are not the analysis's where neither refuses, or if a
+refusal of the engine's changed a word.)
 """ % (FILLER, FILLER)
 
 CLASSES_HELP = """writes one table for each class that is measured, FOLDER/NAME.table, and prints
