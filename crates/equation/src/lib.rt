@@ -7,13 +7,16 @@ ghost use Rattle.equation.specs.Slices.{loads, LoadsFit};
 ghost use Rattle.equation.specs.Solver.{Solvable, SolvedBy};
 use model::Ticks;
 
-// n / d rounded up: one divide, and right at 0 too.
+// n / d rounded up: no divide where n is at most d, one elsewhere (document 02, L2), and right at 0 too.
 pub fn div_up(n: Ticks, d: Ticks) -> u32
     requires { ⌜ 1 ≤ d .0 ⌝ }
     ensures { λ r. ⌜ r ≡ ceilDiv (n .0) (d .0) ⌝ }
 {
     if n.0 == 0 {
         return 0;
+    }
+    if n.0 <= d.0 {
+        return 1;
     }
     (n.0 - 1) / d.0 + 1
 }

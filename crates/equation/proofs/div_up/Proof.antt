@@ -1,4 +1,5 @@
--- `equation::div_up` meets its contract: at 0 the quotient is 0, and elsewhere one more than that of the number before.
+-- `equation::div_up` meets its contract: at 0 the quotient is 0, from 1 to the divisor it is 1, and elsewhere one more than that of
+-- the number before.
 -- Assumes nothing.
 use borrow.Author.Needs.{needs}
 use native.Mathlib.Omega.{arith}
@@ -6,16 +7,22 @@ use native.Mathlib.Nat.{div-le-self}
 use mathlib.Core.Path.{sym, ap, _∙_}
 use Prim.Native.Nat.{ℕ, _-_}
 use Rattle.equation.specs.Rounding.{ceilDiv}
-use Rattle.equation.proofs.RoundingLaws.{at-zero, after-one}
+use Rattle.equation.proofs.RoundingLaws.{least, at-zero, after-one, positive}
 use Rattle.equation.proofs.div_up.Statement.{statement}
 use Rattle.equation.proofs.div_up.Tie as tie
-use Rattle.equation.proofs.div_up.Reads as reads
-use Rattle.equation.proofs.div_up.Lts as lts
 
 returns : tie.Need-returns
 returns c =
-    let a = c .before .before .args in
-    sym (ap (λ (n : ℕ). ceilDiv n (a .d .0)) (c .if1 .taken) ∙ at-zero (a .d .0) (c .before .before .pre))
+    let start = c .before .before in
+    let d = start .args .d .0 in
+    sym (ap (λ (n : ℕ). ceilDiv n d) (c .if1 .taken) ∙ at-zero d (start .pre))
+
+returns-2 : tie.Need-returns-2
+returns-2 c =
+    let start = c .before .before .before .before .before in
+    let n = start .args .n .0 in
+    let d = start .args .d .0 in
+    omega (arith, least n d 1 (start .pre) (omega arith), positive n d (start .pre) (omega arith))
 
 sub-result : tie.Need-sub-result
 sub-result c = search needs
@@ -24,12 +31,14 @@ div-result : tie.Need-div-result
 div-result c = search needs
 
 add-result : tie.Need-add-result
-add-result c = omega (arith, div-le-self (c .before .before .before .before .args .n .0 - 1) (c .before .before .before .before .args .d .0))
+add-result c =
+    let start = c .before .before .before .before .before .before .before in
+    omega (arith, div-le-self (start .args .n .0 - 1) (start .args .d .0))
 
-returns-2 : tie.Need-returns-2
-returns-2 c =
-    let a = c .before .before .before .before .args in
-    sym (after-one (a .n .0) (a .d .0) (c .before .before .before .before .pre) (omega arith))
+returns-3 : tie.Need-returns-3
+returns-3 c =
+    let start = c .before .before .before .before .before .before .before in
+    sym (after-one (start .args .n .0) (start .args .d .0) (start .pre) (omega arith))
 
 pub div-up-spec : {M : Type 1} → statement M
-div-up-spec = tie.close (tie.spec returns sub-result div-result add-result returns-2)
+div-up-spec = tie.close (tie.spec returns returns-2 sub-result div-result add-result returns-3)
