@@ -1,5 +1,6 @@
 /* plain.c: the analysis of document 01 as one would write it in C, without proofs: decoded once
- * into local arrays, one divide for each load and round, and no cleverness beyond that. */
+ * into local arrays, one divide for each load and round, and no cleverness beyond that. Compiled
+ * with -DSKIP_DIVIDE it leaves out the divides that document 02's L2 does without. */
 #include "plain.h"
 #include "plain_table.h"
 
@@ -14,13 +15,23 @@ static uint32_t blocking(const struct tasks *tasks, const struct rows *rows, siz
     return longest;
 }
 
+/* n / d rounded up, for n of at least 1. */
+static uint32_t divide_up(uint32_t n, uint32_t d)
+{
+#ifdef SKIP_DIVIDE
+    if (n <= d)
+        return 1;
+#endif
+    return (n - 1) / d + 1;
+}
+
 /* The demand of task i in a window of at least 1 tick; start is C + B. */
 static uint64_t demand(const struct tasks *tasks, size_t i, uint32_t start, uint32_t window)
 {
     uint64_t sum = start;
 
     for (size_t j = 0; j < i; j++)
-        sum += (uint64_t)((window + tasks->J[j] - 1) / tasks->T[j] + 1) * tasks->C[j];
+        sum += (uint64_t)divide_up(window + tasks->J[j], tasks->T[j]) * tasks->C[j];
     return sum;
 }
 
