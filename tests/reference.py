@@ -1567,8 +1567,8 @@ def most_loads_table():
 
 
 def slowest_table():
-    """The greatest cost that a search over the periods found: 41,778,937 loads, 22,860,538 of
-    them longer than a period, so that they need a divide (document 02, L2)."""
+    """The greatest cost that a search over the periods found: 41,778,937 loads. In 22,860,538 of
+    them the window is longer than the period, so that they need a divide (document 02, L2)."""
     return crowded_table((2, 11, 236, 3, 14, 136041, 32704, 57648, 167220, 143363, 185372, 221486))
 
 
