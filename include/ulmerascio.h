@@ -25,19 +25,32 @@ extern "C" {
 /* Why a table was refused. They are tested in this order, except that 5 and 6 take turns record
  * by record; the first that applies is given, and only when it applies. */
 enum ulmerascio_refusal_number {
-    ULMERASCIO_REFUSED_SHORT = 1,    /* fewer than 5 bytes; place 0 */
-    ULMERASCIO_REFUSED_VERSION = 2,  /* byte 0 is not 1; place 0 */
-    ULMERASCIO_REFUSED_COUNTS = 3,   /* n is not 1 to 32, or m is not 0 to 64; place 0 */
+    ULMERASCIO_REFUSED_SHORT = 1,    /* fewer than 5 bytes */
+    ULMERASCIO_REFUSED_VERSION = 2,  /* byte 0 is not 1 */
+    ULMERASCIO_REFUSED_COUNTS = 3,   /* n is not 1 to 32, or m is not 0 to 64 */
     ULMERASCIO_REFUSED_LENGTH = 4,   /* stated length, table_len and 5 + 17n + 6m are not all
-                                      * equal; place 0 */
-    ULMERASCIO_REFUSED_NUMBERS = 5,  /* T, C, D or J out of range; place of the task */
-    ULMERASCIO_REFUSED_PRIORITY = 6, /* priority 0, or not below the record before; place of the
-                                      * task */
-    ULMERASCIO_REFUSED_ROW = 7,      /* a section row breaks a rule; place of the row */
-    ULMERASCIO_REFUSED_SLICES = 8,   /* a slice has fewer than n words; place 0 */
+                                      * equal */
+    ULMERASCIO_REFUSED_NUMBERS = 5,  /* T, C, D or J out of range */
+    ULMERASCIO_REFUSED_PRIORITY = 6, /* priority 0, or not below the record before */
+    ULMERASCIO_REFUSED_ROW = 7,      /* a section row breaks a rule */
+    ULMERASCIO_REFUSED_SLICES = 8,   /* a slice has fewer than n words */
     ULMERASCIO_REFUSED_NOT_PLAYABLE = 9 /* given by ulmerascio_play alone: some jitter is not 0,
-                                      * or there is a row; place 0 */
+                                      * or there is a row */
 };
+
+/* Where it was refused. The place of refusals 3, 5, 6 and 7 is the offset, from the table's first
+ * byte, at which the first faulty field begins; that of the others is 0. Record i, counted from 0,
+ * begins at t = 5 + 17i, and row k at r = 5 + 17n + 6k.
+ *
+ *     number        place
+ *     1, 2, 4       0
+ *     3             3, where n stands; or 4, where m stands, if only m is wrong
+ *     5             t + 1 for T, t + 5 for C, t + 9 for D, t + 13 for J, tested in this order
+ *     6             t, where the priority stands; it is tested after the numbers of its record
+ *     7             r for the task's place, r + 1 for the semaphore, r + 2 for the length, tested
+ *                   in this order; then r if the row does not rise above the one before
+ *     8, 9          0
+ */
 
 /* Analyses the table of table_len bytes at table.
  *
@@ -45,8 +58,8 @@ enum ulmerascio_refusal_number {
  * bits the place:
  *
  *     code 0         every task meets its deadline; the place is 0
- *     code 1 to 8    the table is refused, with that number of the list above, at the place
- *     code 255       late; the place is the first one whose answer is 0
+ *     code 1 to 8    the table is refused, with that number and at that place of the lists above
+ *     code 255       late; the place is the number of the first task whose answer is 0, from 0
  *
  * The functions below take it apart.
  *
@@ -69,8 +82,9 @@ uint64_t ulmerascio_analyse(const uint8_t *table, size_t table_len,
  * tasks are released at tick 0 and then every T, each job takes its full cost, and tick after
  * tick the most urgent task that has work is served; late jobs queue.
  *
- * Refusals 1 to 8 are as above, 8 for its one slice; then a table with any jitter or row is
- * refused with 9. The verdict is packed as above, with codes 1 to 9 for a refusal.
+ * Refusals 1 to 8 and their places are as above, 8 for its one slice; then a table with any
+ * jitter or row is refused with 9. The verdict is packed as above, with codes 1 to 9 for a
+ * refusal.
  *
  * If the table is not refused, words 0 to n - 1 of answers get the number of ticks from 0 to the
  * end of each task's first job, 0 where that is past its deadline; later words stay. Verdict and
@@ -108,7 +122,8 @@ static inline int ulmerascio_refusal(uint64_t verdict)
     return ulmerascio_is_refused(verdict) ? (int)(verdict >> 32) : 0;
 }
 
-/* The place of a refusal, or of the first late task; 0 if the table is schedulable. */
+/* The place of a refusal, as listed above, or the number of the first late task, counted from 0;
+ * 0 if the table is schedulable. */
 static inline uint32_t ulmerascio_place(uint64_t verdict)
 {
     return (uint32_t)(verdict & 0xFFFFFFFFu);

@@ -5,7 +5,7 @@ It shares no code and no idea of a quick way with the library: it reads the byte
 as document 01 lays them out, looks for each task's answer by search, and plays
 runs tick by tick. The engine of document 02, L1, is played from event to event, and
 knows nothing of the equation. Sentences in double quotation marks are document 01's,
-or L1's where the engine is spoken of.
+or L1's where the engine is spoken of, and L3's where the places of refusals are.
 
 Needs Python 3.7 or later and nothing else.
 """
@@ -24,6 +24,13 @@ VERSION = 1
 HEADER_BYTES = 5
 TASK_BYTES = 17
 ROW_BYTES = 6
+# Where n and m stand.
+TASK_COUNT_BYTE = 3
+ROW_COUNT_BYTE = 4
+# Where each field stands in its record, in the order tested: "taken as T, C, D, J, priority";
+# and in its row: "place, semaphore, length, then row order (at the row's first byte)".
+TASK_FIELDS = {"period": 1, "cost": 5, "deadline": 9, "jitter": 13, "priority": 0}
+ROW_FIELDS = {"place": 0, "semaphore": 1, "length": 2, "order": 0}
 MOST_TASKS = 32
 MOST_ROWS = 64
 GREATEST_TICKS = 1000000
@@ -66,72 +73,91 @@ def table_length(task_count, row_count):
     return HEADER_BYTES + TASK_BYTES * task_count + ROW_BYTES * row_count
 
 
-def read_task(data, place):
+def task_byte(number, field):
+    """The byte, counted from the table's first, at which a field of a record begins."""
+    return HEADER_BYTES + TASK_BYTES * number + TASK_FIELDS[field]
+
+
+def row_byte(task_count, number, field):
+    return HEADER_BYTES + TASK_BYTES * task_count + ROW_BYTES * number + ROW_FIELDS[field]
+
+
+def read_task(data, number):
     # "priority (1 byte), period T, cost C, deadline D, jitter J (4 bytes each)".
-    start = HEADER_BYTES + TASK_BYTES * place
-    record = data[start:start + TASK_BYTES]
-    numbers = [big_endian(record[at:at + 4]) for at in (1, 5, 9, 13)]
-    return Task(record[0], *numbers)
+    starts = [task_byte(number, field) for field in Task._fields[1:]]
+    numbers = [big_endian(data[start:start + 4]) for start in starts]
+    return Task(data[task_byte(number, "priority")], *numbers)
 
 
-def read_row(data, task_count, place):
+def read_row(data, task_count, number):
     # "task place (1), semaphore (1), longest section (4)".
-    start = HEADER_BYTES + TASK_BYTES * task_count + ROW_BYTES * place
-    record = data[start:start + ROW_BYTES]
-    return Row(record[0], record[1], big_endian(record[2:6]))
-
-
-def numbers_in_range(task):
-    # "T and C are 1 to 1,000,000. D is 1 to T. J is 0 to 1,000,000."
-    return (1 <= task.period <= GREATEST_TICKS
-            and 1 <= task.cost <= GREATEST_TICKS
-            and 1 <= task.deadline <= task.period
-            and 0 <= task.jitter <= GREATEST_TICKS)
-
-
-def row_in_range(row, tasks):
-    # "A section row names a place 0 to n-1, a semaphore 1 to 16 and a length 1 to that
-    # task's C."
-    return (row.place < len(tasks)
-            and 1 <= row.semaphore <= GREATEST_SEMAPHORE
-            and 1 <= row.length <= tasks[row.place].cost)
+    place, semaphore, length = (row_byte(task_count, number, field) for field in Row._fields)
+    return Row(data[place], data[semaphore], big_endian(data[length:length + 4]))
 
 
 def check_header(data):
     """Refusals 1 to 4; gives n and m."""
     refuse_when(len(data) < HEADER_BYTES, 1)
     refuse_when(data[0] != VERSION, 2)
-    task_count, row_count = data[3], data[4]
-    refuse_when(not 1 <= task_count <= MOST_TASKS or row_count > MOST_ROWS, 3)
+    task_count, row_count = data[TASK_COUNT_BYTE], data[ROW_COUNT_BYTE]
+    # "Refusal 3 points at byte 3, or 4 if only m is wrong."
+    refuse_when(not 1 <= task_count <= MOST_TASKS, 3, TASK_COUNT_BYTE)
+    refuse_when(row_count > MOST_ROWS, 3, ROW_COUNT_BYTE)
     lengths = {big_endian(data[1:3]), len(data), table_length(task_count, row_count)}
     refuse_when(len(lengths) != 1, 4)
     return task_count, row_count
 
 
+def task_rules(task, before):
+    """For each field of a record, in the order tested: the refusal where it is faulty, and whether
+    it is right."""
+    # "T and C are 1 to 1,000,000. D is 1 to T. J is 0 to 1,000,000."
+    yield "period", 5, 1 <= task.period <= GREATEST_TICKS
+    yield "cost", 5, 1 <= task.cost <= GREATEST_TICKS
+    yield "deadline", 5, 1 <= task.deadline <= task.period
+    yield "jitter", 5, 0 <= task.jitter <= GREATEST_TICKS
+    # "Priorities are 1 to 255 and strictly fall from each record to the next."
+    falls = before is None or task.priority < before.priority
+    yield "priority", 6, 1 <= task.priority <= GREATEST_PRIORITY and falls
+
+
+def row_rules(row, before, tasks):
+    """The same for a row. No rule is looked at before those above it hold: the place is right
+    where a cost is looked up by it."""
+    # "A section row names a place 0 to n-1, a semaphore 1 to 16 and a length 1 to that
+    # task's C."
+    yield "place", 7, row.place < len(tasks)
+    yield "semaphore", 7, 1 <= row.semaphore <= GREATEST_SEMAPHORE
+    yield "length", 7, 1 <= row.length <= tasks[row.place].cost
+    # "Rows strictly rise by place, then semaphore."
+    yield "order", 7, before is None or row[:2] > before[:2]
+
+
 def check_tasks(tasks):
-    # "Task records are taken in order, each tested for 5 and then 6".
-    for place, task in enumerate(tasks):
-        refuse_when(not numbers_in_range(task), 5, place)
-        # "Priorities are 1 to 255 and strictly fall from each record to the next."
-        not_below = place > 0 and task.priority >= tasks[place - 1].priority
-        refuse_when(task.priority == 0 or not_below, 6, place)
+    # "Task records are taken in order, each tested for 5 and then 6"; the place of a refusal is
+    # "the byte offset of the first faulty field".
+    before = None
+    for number, task in enumerate(tasks):
+        for field, refusal, right in task_rules(task, before):
+            refuse_when(not right, refusal, task_byte(number, field))
+        before = task
 
 
 def check_rows(rows, tasks):
-    # "then the rows in order for 7": each within its ranges, and "Rows strictly rise by
-    # place, then semaphore."
-    for place, row in enumerate(rows):
-        refuse_when(not row_in_range(row, tasks), 7, place)
-        not_above = place > 0 and row[:2] <= rows[place - 1][:2]
-        refuse_when(not_above, 7, place)
+    # "then the rows in order for 7".
+    before = None
+    for number, row in enumerate(rows):
+        for field, refusal, right in row_rules(row, before, tasks):
+            refuse_when(not right, refusal, row_byte(len(tasks), number, field))
+        before = row
 
 
 def read_table(data, answers_length, rounds_length):
     """Gives the tasks and the rows, or raises the first refusal that applies."""
     task_count, row_count = check_header(data)
-    tasks = [read_task(data, place) for place in range(task_count)]
+    tasks = [read_task(data, number) for number in range(task_count)]
     check_tasks(tasks)
-    rows = [read_row(data, task_count, place) for place in range(row_count)]
+    rows = [read_row(data, task_count, number) for number in range(row_count)]
     check_rows(rows, tasks)
     # "an answer slice has fewer than n words"
     refuse_when(min(answers_length, rounds_length) < task_count, 8)
@@ -361,20 +387,20 @@ def edge_tables():
     fifth = Draft(listed(*FIFTH)).data()
     yield fifth[:4], "refused 1 at 0\n"
     yield b"", "refused 1 at 0\n"
-    yield bytes([1, 0, 5, 33, 0]), "refused 3 at 0\n"
-    yield Draft(listed(*[(100, 1, 100)] * 33)).data(), "refused 3 at 0\n"
+    yield bytes([1, 0, 5, 33, 0]), "refused 3 at 3\n"
+    yield Draft(listed(*[(100, 1, 100)] * 33)).data(), "refused 3 at 3\n"
     yield Draft(listed((4, 1, 4), (6, 2, 6), (10, 3, 10))).data(), None
-    for place in range(3):
+    for number, byte in enumerate((14, 31, 48)):
         draft = Draft(listed(*FIFTH))
-        draft.change_task(place, deadline=draft.tasks[place].period + 1)
-        yield draft.data(), "refused 5 at %d\n" % place
-    for place, row in enumerate(SECTION_ROWS):
-        cost = SECTIONS[row[0]][1]
+        draft.change_task(number, deadline=draft.tasks[number].period + 1)
+        yield draft.data(), "refused 5 at %d\n" % byte
+    for number, byte in enumerate((75, 81, 87, 93)):
+        cost = SECTIONS[SECTION_ROWS[number][0]][1]
         draft = Draft(listed(*SECTIONS), listed_rows(*SECTION_ROWS))
-        draft.change_row(place, length=cost)
+        draft.change_row(number, length=cost)
         yield draft.data(), None
-        draft.change_row(place, length=cost + 1)
-        yield draft.data(), "refused 7 at %d\n" % place
+        draft.change_row(number, length=cost + 1)
+        yield draft.data(), "refused 7 at %d\n" % byte
     yield from order_edges()
 
 
@@ -384,13 +410,13 @@ def order_edges():
     draft = Draft(listed(*FIFTH))
     draft.change_task(0, priority=0)
     draft.change_task(1, period=0)
-    yield draft.data(), "refused 6 at 0\n"
+    yield draft.data(), "refused 6 at 5\n"
     draft.change_task(0, cost=0)
-    yield draft.data(), "refused 5 at 0\n"
+    yield draft.data(), "refused 5 at 10\n"
     draft.lent_length += 1
     yield draft.data(), "refused 4 at 0\n"
     draft.row_count = 65
-    yield draft.data(), "refused 3 at 0\n"
+    yield draft.data(), "refused 3 at 4\n"
     draft.version = 2
     yield draft.data(), "refused 2 at 0\n"
     draft.lent_length = 4
@@ -726,85 +752,110 @@ def slow_tables():
 # Faults
 # ---------------------------------------------------------------------------
 
-# A fault is a function that spoils a draft at a place and gives the refusal it asks for, or
-# None where it does not fit. The answers in "expected" never come from here; the self-test
-# compares the two.
+# A fault is a function that spoils a draft, in the record or row of a number, and gives the
+# refusal it asks for, or None where it does not fit. The answers in "expected" never come from
+# here; the self-test compares the two.
 
-def header_fault(**changes):
-    number = {"version": 2, "task_count": 3, "row_count": 3}
+# The turn is where the check stands among all: its stage, the record or row, and the field.
+Asked = collections.namedtuple("Asked", "number place turn")
 
-    def spoil(draft, _place):
-        for name, value in changes.items():
-            setattr(draft, name, value)
-        return number[next(iter(changes))], 0
+ASKED_BY_HEADER = {"version": Asked(2, 0, (2,)),
+                   "task_count": Asked(3, TASK_COUNT_BYTE, (3, TASK_COUNT_BYTE)),
+                   "row_count": Asked(3, ROW_COUNT_BYTE, (3, ROW_COUNT_BYTE))}
+
+
+def asked_by_task(number, field):
+    turn = 5, number, list(TASK_FIELDS).index(field)
+    return Asked(6 if field == "priority" else 5, task_byte(number, field), turn)
+
+
+def asked_by_row(draft, number, field):
+    turn = 7, number, list(ROW_FIELDS).index(field)
+    return Asked(7, row_byte(len(draft.tasks), number, field), turn)
+
+
+def header_fault(field, value):
+    def spoil(draft, _number):
+        setattr(draft, field, value)
+        return ASKED_BY_HEADER[field]
     return spoil
 
 
 def length_fault(stated=0, lent=0, task_count=0, row_count=0):
-    def spoil(draft, _place):
+    def spoil(draft, _number):
         draft.stated_length += stated
         draft.lent_length += lent
         draft.task_count += task_count
         draft.row_count += row_count
         in_range = 1 <= draft.task_count <= MOST_TASKS and 0 <= draft.row_count <= MOST_ROWS
-        return (4, 0) if in_range and draft.lent_length >= HEADER_BYTES else None
+        return Asked(4, 0, (4,)) if in_range and draft.lent_length >= HEADER_BYTES else None
     return spoil
 
 
 def cut_fault(length):
-    def spoil(draft, _place):
+    def spoil(draft, _number):
         draft.lent_length = length
-        return 1, 0
+        return Asked(1, 0, (1,))
     return spoil
 
 
 def number_fault(field, value):
-    def spoil(draft, place):
-        if place >= len(draft.tasks):
+    def spoil(draft, number):
+        if number >= len(draft.tasks):
             return None
-        wanted = value(draft.tasks[place])
-        draft.change_task(place, **{field: max(0, min(wanted, GREATEST_WORD))})
-        return 5, place
+        wanted = value(draft.tasks[number])
+        draft.change_task(number, **{field: max(0, min(wanted, GREATEST_WORD))})
+        return asked_by_task(number, field)
     return spoil
 
 
+def period_below_deadline(draft, number):
+    """The period passes unless it is 0 now; it is the deadline that is out of range."""
+    if number >= len(draft.tasks):
+        return None
+    period = max(0, draft.tasks[number].deadline - 1)
+    draft.change_task(number, period=period)
+    return asked_by_task(number, "deadline" if period else "period")
+
+
 def priority_fault(value):
-    def spoil(draft, place):
-        if place >= len(draft.tasks):
+    def spoil(draft, number):
+        if number >= len(draft.tasks):
             return None
-        before = draft.tasks[place - 1].priority if place else None
+        before = draft.tasks[number - 1].priority if number else None
         priority = value(before)
         if priority is None or priority > GREATEST_PRIORITY:
             return None
-        draft.change_task(place, priority=priority)
-        return 6, place
+        draft.change_task(number, priority=priority)
+        return asked_by_task(number, "priority")
     return spoil
 
 
 def row_fault(**changes):
-    def spoil(draft, place):
-        if place >= len(draft.rows):
+    """Of several fields, the one that is tested first is to be named first."""
+    def spoil(draft, number):
+        if number >= len(draft.rows):
             return None
-        row = draft.rows[place]
+        row = draft.rows[number]
         values = {name: value(draft, row) for name, value in changes.items()}
-        draft.change_row(place, **values)
-        return 7, place
+        draft.change_row(number, **values)
+        return asked_by_row(draft, number, next(iter(changes)))
     return spoil
 
 
-def repeat_row(draft, place):
-    if place == 0 or place >= len(draft.rows):
+def repeat_row(draft, number):
+    if number == 0 or number >= len(draft.rows):
         return None
-    before = draft.rows[place - 1]
-    draft.rows[place] = before._replace(length=1)
-    return 7, place
+    before = draft.rows[number - 1]
+    draft.rows[number] = before._replace(length=1)
+    return asked_by_row(draft, number, "order")
 
 
-def swap_rows(draft, place):
-    if place == 0 or place >= len(draft.rows):
+def swap_rows(draft, number):
+    if number == 0 or number >= len(draft.rows):
         return None
-    draft.rows[place - 1], draft.rows[place] = draft.rows[place], draft.rows[place - 1]
-    return 7, place
+    draft.rows[number - 1], draft.rows[number] = draft.rows[number], draft.rows[number - 1]
+    return asked_by_row(draft, number, "order")
 
 
 def cost_of(draft, row):
@@ -812,44 +863,47 @@ def cost_of(draft, row):
     return draft.tasks[min(row.place, len(draft.tasks) - 1)].cost
 
 
+PERIOD_FAULTS = [number_fault("period", lambda task: 0),
+                 number_fault("period", lambda task: GREATEST_TICKS + 1),
+                 number_fault("period", lambda task: GREATEST_WORD)]
+COST_FAULTS = [number_fault("cost", lambda task: 0),
+               number_fault("cost", lambda task: GREATEST_TICKS + 1),
+               number_fault("cost", lambda task: 2 ** 31)]
+DEADLINE_FAULTS = [number_fault("deadline", lambda task: 0),
+                   number_fault("deadline", lambda task: task.period + 1),
+                   number_fault("deadline", lambda task: GREATEST_WORD)]
+JITTER_FAULTS = [number_fault("jitter", lambda task: GREATEST_TICKS + 1),
+                 number_fault("jitter", lambda task: GREATEST_WORD)]
+PRIORITY_FAULTS = [priority_fault(lambda before: 0),
+                   priority_fault(lambda before: before),
+                   priority_fault(lambda before: None if before is None else before + 1),
+                   priority_fault(lambda before: None if before is None else GREATEST_PRIORITY)]
+PLACE_FAULTS = [row_fault(place=lambda draft, row: len(draft.tasks)),
+                row_fault(place=lambda draft, row: 255)]
+SEMAPHORE_FAULTS = [row_fault(semaphore=lambda draft, row: 0),
+                    row_fault(semaphore=lambda draft, row: 17),
+                    row_fault(semaphore=lambda draft, row: 255)]
+LENGTH_FAULTS = [row_fault(length=lambda draft, row: 0),
+                 row_fault(length=lambda draft, row: cost_of(draft, row) + 1),
+                 row_fault(length=lambda draft, row: GREATEST_WORD)]
+# Place and length both wrong: the place must be tested before the cost is looked up by it.
+PLACE_AND_LENGTH = row_fault(place=lambda draft, row: len(draft.tasks),
+                             length=lambda draft, row: 0)
+
 FAULTS_BY_REFUSAL = [
     [cut_fault(0), cut_fault(1), cut_fault(4)],
-    [header_fault(version=0), header_fault(version=2), header_fault(version=255)],
-    [header_fault(task_count=0), header_fault(task_count=33), header_fault(task_count=255),
-     header_fault(row_count=65), header_fault(row_count=255)],
+    [header_fault("version", value) for value in (0, 2, 255)],
+    [header_fault("task_count", value) for value in (0, 33, 255)]
+    + [header_fault("row_count", value) for value in (65, 255)],
     [length_fault(stated=1), length_fault(stated=-1), length_fault(stated=256),
      length_fault(lent=1), length_fault(lent=-1), length_fault(lent=17),
      length_fault(stated=1, lent=1), length_fault(stated=-6, lent=-6),
      length_fault(task_count=1), length_fault(task_count=-1), length_fault(row_count=1),
      length_fault(row_count=-1), length_fault(stated=17, task_count=1),
      length_fault(lent=6, row_count=1), length_fault(lent=-17, task_count=-1)],
-    [number_fault("period", lambda task: 0),
-     number_fault("period", lambda task: GREATEST_TICKS + 1),
-     number_fault("period", lambda task: GREATEST_WORD),
-     number_fault("period", lambda task: task.deadline - 1),
-     number_fault("cost", lambda task: 0),
-     number_fault("cost", lambda task: GREATEST_TICKS + 1),
-     number_fault("cost", lambda task: 2 ** 31),
-     number_fault("deadline", lambda task: 0),
-     number_fault("deadline", lambda task: task.period + 1),
-     number_fault("deadline", lambda task: GREATEST_WORD),
-     number_fault("jitter", lambda task: GREATEST_TICKS + 1),
-     number_fault("jitter", lambda task: GREATEST_WORD)],
-    [priority_fault(lambda before: 0),
-     priority_fault(lambda before: before),
-     priority_fault(lambda before: None if before is None else before + 1),
-     priority_fault(lambda before: None if before is None else GREATEST_PRIORITY)],
-    [row_fault(place=lambda draft, row: len(draft.tasks)),
-     row_fault(place=lambda draft, row: 255),
-     row_fault(semaphore=lambda draft, row: 0),
-     row_fault(semaphore=lambda draft, row: 17),
-     row_fault(semaphore=lambda draft, row: 255),
-     row_fault(length=lambda draft, row: 0),
-     row_fault(length=lambda draft, row: cost_of(draft, row) + 1),
-     row_fault(length=lambda draft, row: GREATEST_WORD),
-     # Place and length both wrong: the place must be tested before the cost is looked up by it.
-     row_fault(place=lambda draft, row: len(draft.tasks), length=lambda draft, row: 0),
-     repeat_row, swap_rows],
+    PERIOD_FAULTS + [period_below_deadline] + COST_FAULTS + DEADLINE_FAULTS + JITTER_FAULTS,
+    PRIORITY_FAULTS,
+    PLACE_FAULTS + SEMAPHORE_FAULTS + LENGTH_FAULTS + [PLACE_AND_LENGTH, repeat_row, swap_rows],
 ]
 
 Spoiled = collections.namedtuple("Spoiled", "entry refusals")
@@ -868,11 +922,11 @@ def spoiled_entry(generator, draft, refusals):
 
 
 def one_fault(generator):
-    """Every fault at every place of a small table."""
+    """Every fault in every record and row of a small table."""
     for fault in itertools.chain(*FAULTS_BY_REFUSAL):
-        for place in range(6):
+        for number in range(6):
             draft = sound_draft(generator)
-            refusal = fault(draft, place)
+            refusal = fault(draft, number)
             if refusal:
                 yield spoiled_entry(generator, draft, [refusal])
 
@@ -893,21 +947,18 @@ def two_faults(generator, how_many):
 
 
 def alternating_faults(generator):
-    """Refusals 5 and 6 at all pairs of places: they "alternate record by record"."""
-    for number_place in range(4):
-        for priority_place in range(4):
+    """Refusals 5 and 6 in all pairs of records: they "alternate record by record"."""
+    for first in range(4):
+        for second in range(4):
             draft = Draft(*made_table(generator, 4, 2, 60))
-            number, priority = FAULTS_BY_REFUSAL[4], FAULTS_BY_REFUSAL[5]
-            refusals = [generator.pick(number)(draft, number_place),
-                        priority[priority_place and generator.below(2)](draft, priority_place)]
+            refusals = [generator.pick(FAULTS_BY_REFUSAL[4])(draft, first),
+                        PRIORITY_FAULTS[second and generator.below(2)](draft, second)]
             yield spoiled_entry(generator, draft, refusals)
 
 
-def check_order(refusal):
-    """Where a refusal stands among the checks; 5 and 6 share a stage, record by record."""
-    number, place = refusal
-    stage = 5 if number == 6 else number
-    return stage, place, number
+def earliest(refusals):
+    """The first of these in the order of the checks."""
+    return min(refusals, key=lambda asked: asked.turn)
 
 
 def cut_tables():
@@ -1125,6 +1176,206 @@ def engine_entries(generator):
     yield from engine_slice_entries()
 
 
+# ---------------------------------------------------------------------------
+# Made tables for the places of refusals
+# ---------------------------------------------------------------------------
+
+def moved_row(place, semaphore):
+    """The row before again, moved by so much."""
+    def spoil(draft, number):
+        if not 0 < number < len(draft.rows):
+            return None
+        before = draft.rows[number - 1]
+        moved = Row(before.place + place, before.semaphore + semaphore, 1)
+        if moved.place < 0 or not 1 <= moved.semaphore <= GREATEST_SEMAPHORE:
+            return None
+        draft.rows[number] = moved
+        return asked_by_row(draft, number, "order")
+    return spoil
+
+
+ORDER_FAULTS = [repeat_row, moved_row(0, -1), moved_row(-1, 0), moved_row(-1, 1)]
+# The faults of each field, in the order tested.
+TASK_FAULTS = [PERIOD_FAULTS, COST_FAULTS, DEADLINE_FAULTS, JITTER_FAULTS, PRIORITY_FAULTS]
+ROW_FAULTS = [PLACE_FAULTS, SEMAPHORE_FAULTS, LENGTH_FAULTS, ORDER_FAULTS]
+
+
+def place_edges():
+    """Places counted by hand, each with the text it must get: the records of the table with
+    sections begin at bytes 5, 22, 39 and 56, its rows at 73, 79, 85 and 91."""
+    for changes, text in (
+            ([(0, {"priority": 0})], "refused 6 at 5\n"),
+            ([(1, {"priority": 4})], "refused 6 at 22\n"),
+            ([(1, {"period": 0})], "refused 5 at 23\n"),
+            ([(1, {"cost": 0})], "refused 5 at 27\n"),
+            ([(1, {"deadline": 21})], "refused 5 at 31\n"),
+            ([(1, {"jitter": 1000001})], "refused 5 at 35\n"),
+            ([(3, {"jitter": 1000001})], "refused 5 at 69\n"),
+            ([(1, {"priority": 0, "jitter": 1000001})], "refused 5 at 35\n"),
+            ([(1, {"period": 1000001, "deadline": 0})], "refused 5 at 23\n"),
+            ([(1, {"priority": 0}), (2, {"period": 0})], "refused 6 at 22\n"),
+            ([(1, {"jitter": 1000001}), (2, {"priority": 0})], "refused 5 at 35\n")):
+        draft = Draft(listed(*SECTIONS), listed_rows(*SECTION_ROWS))
+        for number, fields in changes:
+            draft.change_task(number, **fields)
+        yield draft.data(), text
+    for changes, text in (
+            ([(0, {"place": 4})], "refused 7 at 73\n"),
+            ([(2, {"place": 4})], "refused 7 at 85\n"),
+            ([(2, {"semaphore": 17})], "refused 7 at 86\n"),
+            ([(2, {"length": 11})], "refused 7 at 87\n"),
+            ([(2, {"place": 0, "length": 1})], "refused 7 at 85\n"),
+            ([(3, {"length": 5})], "refused 7 at 93\n"),
+            ([(2, {"place": 4, "semaphore": 0, "length": 0})], "refused 7 at 85\n"),
+            ([(2, {"semaphore": 0, "length": 0})], "refused 7 at 86\n"),
+            ([(2, {"place": 0, "semaphore": 17})], "refused 7 at 86\n"),
+            ([(2, {"place": 0, "length": 3})], "refused 7 at 87\n"),
+            ([(1, {"semaphore": 1}), (2, {"place": 4})], "refused 7 at 79\n")):
+        draft = Draft(listed(*SECTIONS), listed_rows(*SECTION_ROWS))
+        for number, fields in changes:
+            draft.change_row(number, **fields)
+        yield draft.data(), text
+
+
+def spoiled_table(generator, count, row_count, *faults):
+    """A table with these faults, made one after the other, each given with the number of its
+    record or row; nothing where they fit none of ten tables."""
+    for _ in range(10):
+        draft = Draft(*made_table(generator, count, row_count, 60 * count))
+        refusals = [fault(draft, number) for fault, number in faults]
+        if None not in refusals:
+            yield spoiled_entry(generator, draft, refusals)
+            return
+
+
+def count_drafts():
+    """As many records and rows as n and m say, and each length right, but n, m or both out of
+    range; gives the field to be named too."""
+    for task_count, row_count, field in (
+            (0, 0, "task_count"), (0, 64, "task_count"), (0, 65, "task_count"),
+            (33, 0, "task_count"), (33, 64, "task_count"), (33, 65, "task_count"),
+            (1, 65, "row_count"), (32, 65, "row_count")):
+        tasks = listed(*[(100, 1, 100)] * task_count)
+        yield Draft(tasks, [Row(0, 1, 1)] * row_count), field
+
+
+def count_faults(generator):
+    """n or m out of range, both, and each with a fault that is tested later."""
+    for draft, field in count_drafts():
+        yield Spoiled(exact_entry(draft.data()), [ASKED_BY_HEADER[field]])
+    wrong_task_counts = [header_fault("task_count", value) for value in (0, 33, 255)]
+    wrong_row_counts = [header_fault("row_count", value) for value in (65, 128, 255)]
+    for fault in wrong_task_counts + wrong_row_counts:
+        for later in (length_fault(lent=1), PERIOD_FAULTS[0], PRIORITY_FAULTS[0], PLACE_FAULTS[0]):
+            yield from spoiled_table(generator, 2, 2, (later, 0), (fault, 0))
+    for fault, later in itertools.product(wrong_task_counts, wrong_row_counts):
+        yield from spoiled_table(generator, 2, 2, (later, 0), (fault, 0))
+
+
+def ends_of(count):
+    """The first, a middle and the last."""
+    return sorted({0, count // 2, count - 1}) if count else []
+
+
+def field_faults(generator):
+    """Every fault of every field, in the first, a middle and the last record or row."""
+    for fault in itertools.chain(*TASK_FAULTS, [period_below_deadline]):
+        count, row_count = generator.between(3, 4), generator.between(0, 4)
+        for number in ends_of(count):
+            yield from spoiled_table(generator, count, row_count, (fault, number))
+    for fault in itertools.chain(*ROW_FAULTS):
+        count, row_count = generator.between(2, 4), generator.between(3, 4)
+        for number in ends_of(row_count):
+            yield from spoiled_table(generator, count, row_count, (fault, number))
+    for fields in TASK_FAULTS + ROW_FAULTS:
+        yield from spoiled_table(generator, 1, 1, (generator.pick(fields), 0))
+
+
+def neighbour_faults(generator):
+    """Two faulty fields of one record or row, and every field with all that are tested after
+    it. A row is moved first, since that changes its other fields."""
+    for fields in itertools.combinations(TASK_FAULTS, 2):
+        for number in list(range(3)) * 2:
+            faults = [(generator.pick(field), number) for field in fields]
+            yield from spoiled_table(generator, 3, generator.between(0, 2), *faults)
+    for fields in itertools.combinations(reversed(ROW_FAULTS), 2):
+        first = 1 if ORDER_FAULTS in fields else 0
+        for faults in itertools.product(*fields):
+            number = generator.between(first, 3)
+            pairs = [(fault, number) for fault in faults]
+            yield from spoiled_table(generator, generator.between(2, 4), 4, *pairs)
+    for start in range(len(TASK_FAULTS)):
+        faults = [(generator.pick(field), 1) for field in TASK_FAULTS[start:]]
+        yield from spoiled_table(generator, 2, 1, *faults)
+    for start in range(len(ROW_FAULTS)):
+        faults = [(generator.pick(field), 2) for field in reversed(ROW_FAULTS[start:])]
+        yield from spoiled_table(generator, 3, 4, *faults)
+
+
+def distant_faults(generator):
+    """Any two fields of two records or rows, next to each other or not, or of a record and a
+    row."""
+    for fields in (TASK_FAULTS, ROW_FAULTS):
+        for first, second in itertools.product(fields, repeat=2):
+            at = generator.between(1, 2)
+            for numbers in ((at, at + 1), (generator.below(2), 3)):
+                faults = zip((generator.pick(first), generator.pick(second)), numbers)
+                yield from spoiled_table(generator, 4, 4, *faults)
+    for first, second in itertools.product(TASK_FAULTS, ROW_FAULTS):
+        faults = [(generator.pick(first), generator.below(3)), (generator.pick(second), 1)]
+        yield from spoiled_table(generator, 3, 2, *faults)
+
+
+def far_faults(generator):
+    """The last and a middle record or row of long tables: the greatest places."""
+    for count, row_count in ((MOST_TASKS, MOST_ROWS), (MOST_TASKS, 0), (MOST_TASKS, 1),
+                             (4, MOST_ROWS), (1, GREATEST_SEMAPHORE)):
+        for fields, size in ((TASK_FAULTS, count), (ROW_FAULTS, row_count)):
+            for field, number in itertools.product(fields, ends_of(size)[-2:]):
+                yield from spoiled_table(generator, count, row_count,
+                                         (generator.pick(field), number))
+
+
+def limits_of(tasks, number):
+    """The least and the greatest value that each field of a record may have."""
+    task = tasks[number]
+    above = tasks[number - 1].priority if number else GREATEST_PRIORITY + 1
+    below = tasks[number + 1].priority if number + 1 < len(tasks) else 0
+    return {"period": (task.deadline, GREATEST_TICKS), "cost": (1, GREATEST_TICKS),
+            "deadline": (1, task.period), "jitter": (0, GREATEST_TICKS),
+            "priority": (below + 1, above - 1)}
+
+
+def within_limits(generator):
+    """Fields just inside the limits that the faults are just outside of: nothing is refused."""
+    for field, number, end in itertools.product(TASK_FIELDS, range(3), range(2)):
+        tasks, _ = made_table(generator, 3, 0, 60)
+        tasks[number] = tasks[number]._replace(**{field: limits_of(tasks, number)[field][end]})
+        yield answered_entry(generator, tasks, [])
+    for number, field, value in ((0, "semaphore", 1), (3, "semaphore", GREATEST_SEMAPHORE),
+                                 (3, "place", 2), (0, "length", 1), (3, "length", None)):
+        tasks, rows = made_table(generator, 3, 4, 60)
+        row = rows[number]._replace(length=1)
+        rows[number] = row._replace(**{field: value or tasks[row.place].cost})
+        yield answered_entry(generator, tasks, rows)
+
+
+def placed_faults(generator):
+    yield from count_faults(generator)
+    yield from field_faults(generator)
+    yield from neighbour_faults(generator)
+    yield from distant_faults(generator)
+    yield from far_faults(generator)
+
+
+def place_entries(generator):
+    for data, _ in place_edges():
+        yield exact_entry(data)
+    for spoiled in placed_faults(generator):
+        yield spoiled.entry
+    yield from within_limits(generator)
+
+
 SEED = 20240101
 
 
@@ -1138,6 +1389,7 @@ def all_entries():
         yield exact_entry(data)
     yield from made_entries(Generator(SEED))
     yield from engine_entries(Generator(SEED + 3))
+    yield from place_entries(Generator(SEED + 5))
 
 
 def entry_bytes(entry):
@@ -1359,7 +1611,7 @@ def check_documents(checks):
     for number, data in enumerate(wrapping_tables()):
         last = outcomes_of(*read_table(data, MOST_TASKS, MOST_TASKS))[-1]
         checks.same(last.response, 0, "wrapping table %d" % number)
-    for number, (data, wanted) in enumerate(edge_tables()):
+    for number, (data, wanted) in enumerate(itertools.chain(edge_tables(), place_edges())):
         text = text_of(data)
         if wanted is None:
             text = None if text.startswith("tasks ") else text
@@ -1369,16 +1621,23 @@ def check_documents(checks):
 def check_faults(checks):
     """Each fault gives its own refusal; of two of different stages the earlier is given. (Two in
     one stage, or two in the header, may undo each other.)"""
+    def check_earliest(spoiled, what):
+        checks.same(refusal_of(spoiled.entry), earliest(spoiled.refusals)[:2], what)
+
     generator = Generator(SEED + 1)
     for spoiled in one_fault(generator):
-        checks.same(refusal_of(spoiled.entry), spoiled.refusals[0], "one fault")
+        check_earliest(spoiled, "one fault")
     for spoiled in two_faults(generator, 600):
-        first, second = sorted(spoiled.refusals, key=check_order)
-        if second[0] > 4 and check_order(first)[0] != check_order(second)[0]:
-            checks.same(refusal_of(spoiled.entry), first, "two faults")
+        first, second = sorted(asked.turn[0] for asked in spoiled.refusals)
+        if second > 4 and first != second:
+            check_earliest(spoiled, "two faults")
     for spoiled in alternating_faults(generator):
-        first = min(spoiled.refusals, key=check_order)
-        checks.same(refusal_of(spoiled.entry), first, "5 and 6")
+        check_earliest(spoiled, "5 and 6")
+    generator = Generator(SEED + 5)
+    for spoiled in placed_faults(generator):
+        check_earliest(spoiled, "places")
+    for entry in within_limits(generator):
+        checks.same(refusal_of(entry), None, "within limits")
 
 
 def check_searches(checks, tasks, rows):
@@ -1574,10 +1833,10 @@ def slowest_table():
 
 def refusal_classes():
     last_task, last_row = MOST_TASKS - 1, MOST_ROWS - 1
-    for title, fault, place in (
+    for title, fault, number in (
             ("1", cut_fault(4), 0),
-            ("2", header_fault(version=2), 0),
-            ("3", header_fault(row_count=65), 0),
+            ("2", header_fault("version", 2), 0),
+            ("3", header_fault("row_count", 65), 0),
             ("4", length_fault(lent=1), 0),
             ("5, first task", number_fault("jitter", lambda task: GREATEST_TICKS + 1), 0),
             ("5, last task", number_fault("jitter", lambda task: GREATEST_TICKS + 1), last_task),
@@ -1586,7 +1845,7 @@ def refusal_classes():
             ("7, first row", row_fault(length=lambda draft, row: 0), 0),
             ("7, last row", row_fault(length=lambda draft, row: 0), last_row)):
         _, draft = loaded_draft(MOST_TASKS, MOST_ROWS, [30])
-        fault(draft, place)
+        fault(draft, number)
         name = "refusal-" + title.replace(",", "").replace(" ", "-")
         yield Measured(name, 100, 200, "refusal " + title, draft.data())
 

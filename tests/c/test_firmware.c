@@ -1,6 +1,7 @@
 /* test_firmware TABLES: calls the library through its C header and compares it, word by word,
  * with the plain C analysis and the plain C engine (bench/plain.c) on every entry of a file that
- * "tests/reference.py make" wrote; and the engine with the analysis. */
+ * "tests/reference.py make" wrote; and the engine with the analysis. The places of refusals are
+ * also compared with some that were counted by hand. */
 #include <stdio.h>
 #include <stdlib.h>
 #include <string.h>
@@ -14,6 +15,7 @@ enum {
     ENTRY_HEADER = 4,    /* table length (2), answers length (1), rounds length (1) */
     WORKED_TABLES = 15,  /* the file begins with document 01's worked tables */
     FIFTH_TABLE = 4,
+    SECTIONS_TABLE = 12,
     MANY_ROUNDS = 1000
 };
 
@@ -80,10 +82,38 @@ static int helpers_agree(uint64_t verdict)
         && (code == 0 || code == 255 || refused);
 }
 
-static void check_helpers(uint64_t verdict)
+/* Can the place be that of such a verdict? A late task has a number. Refusals 3, 5, 6 and 7 point
+ * at the first byte of a field (document 02, L3): n or m; T, C, D or J, at 1, 5, 9 or 13 in a
+ * record; the priority, at 0 in it; one of the three at 0, 1 and 2 in a row. */
+static int place_fits(struct table table, uint64_t verdict)
+{
+    size_t place = ulmerascio_place(verdict), n = table.length > 3 ? table.bytes[3] : 0;
+    size_t records = 5, rows = records + 17 * n, in_record = (place - records) % 17;
+
+    if (ulmerascio_is_late(verdict))
+        return place < n;
+    switch (ulmerascio_refusal(verdict)) {
+    case 3:
+        return place == 3 || place == 4;
+    case 5:
+        return place >= records && place < rows && in_record % 4 == 1;
+    case 6:
+        return place >= records && place < rows && in_record == 0;
+    case 7:
+        return place >= rows && place < table.length && (place - rows) % 6 <= 2;
+    default:
+        return place == 0;
+    }
+}
+
+static void check_verdict(struct table table, uint64_t verdict)
 {
     if (!helpers_agree(verdict)) {
         printf("c: the header takes verdict %llx apart wrongly\n", (unsigned long long)verdict);
+        exit(1);
+    }
+    if (!place_fits(table, verdict)) {
+        printf("c: verdict %llx has a place that it cannot have\n", (unsigned long long)verdict);
         exit(1);
     }
 }
@@ -107,7 +137,7 @@ static struct outcome compare(const char *what, size_t number, struct table tabl
         compare_slice("rounds", ours.rounds, plain.rounds);
         exit(1);
     }
-    check_helpers(ours.verdict);
+    check_verdict(table, ours.verdict);
     written = ulmerascio_is_refused(ours.verdict) ? 0 : table.bytes[3];
     check_stayed("answers", ours.answers, written);
     check_stayed("rounds", ours.rounds, written);
@@ -149,7 +179,7 @@ static void compare_play(const char *what, size_t number, struct table table, si
         compare_slice("answers", ours.answers, plain.answers);
         exit(1);
     }
-    check_helpers(ours.verdict);
+    check_verdict(table, ours.verdict);
     check_stayed("answers", ours.answers,
                  ulmerascio_is_refused(ours.verdict) ? 0 : table.bytes[3]);
     plays++;
@@ -205,6 +235,64 @@ static void try_slice_lengths(size_t number, struct table table, const struct ou
         compare_play("worked table", number, table, answers_len);
 }
 
+/* Changes to the table with sections, and the refusal of each. Its 4 records begin at bytes 5, 22,
+ * 39 and 56, its 4 rows at 73, 79, 85 and 91. A change of byte 0 to 1 changes nothing. */
+static const struct {
+    struct {
+        uint8_t at, to;
+    } changes[2];
+    uint32_t refusal, place;
+} faults[] = {
+    {{{3, 33}, {0, 1}}, 3, 3},
+    {{{4, 65}, {0, 1}}, 3, 4},
+    {{{3, 0}, {4, 65}}, 3, 3},
+    {{{26, 0}, {0, 1}}, 5, 23},   /* T is 0 */
+    {{{23, 1}, {0, 1}}, 5, 23},   /* T is above 1,000,000 */
+    {{{30, 0}, {0, 1}}, 5, 27},   /* C is 0 */
+    {{{34, 21}, {0, 1}}, 5, 31},  /* D is T + 1 */
+    {{{35, 1}, {0, 1}}, 5, 35},   /* J is above 1,000,000 */
+    {{{22, 4}, {0, 1}}, 6, 22},   /* the priority is that of the record before */
+    {{{22, 4}, {35, 1}}, 5, 35},  /* the priority is tested last */
+    {{{5, 0}, {26, 0}}, 6, 5},    /* but before the next record */
+    {{{85, 4}, {0, 1}}, 7, 85},   /* the place is n */
+    {{{86, 17}, {0, 1}}, 7, 86},  /* the semaphore is 17 */
+    {{{90, 11}, {0, 1}}, 7, 87},  /* the length is C + 1 */
+    {{{91, 2}, {0, 1}}, 7, 91},   /* out of order, at the row's first byte */
+    {{{85, 1}, {90, 3}}, 7, 85},  /* as the row before it */
+    {{{85, 1}, {0, 1}}, 7, 87},   /* the same with a length above C: the order is tested last */
+    {{{91, 2}, {92, 0}}, 7, 92},  /* out of order, and the semaphore is 0 */
+};
+
+static void try_places(struct table table)
+{
+    uint8_t *bytes = malloc(table.length);
+    struct table faulty = {bytes, table.length};
+
+    if (!bytes) {
+        perror("memory");
+        exit(1);
+    }
+    for (size_t i = 0; i < sizeof faults / sizeof faults[0]; i++) {
+        uint64_t wanted = (uint64_t)faults[i].refusal << 32 | faults[i].place;
+        struct outcome outcome;
+        struct played played;
+
+        memcpy(bytes, table.bytes, table.length);
+        for (size_t k = 0; k < 2; k++)
+            bytes[faults[i].changes[k].at] = faults[i].changes[k].to;
+        outcome = compare("fault", i, faulty, 32, 32);
+        compare_play("fault", i, faulty, 32);
+        call_engine(ulmerascio_play, faulty, 32, &played);
+        if (outcome.verdict != wanted || played.verdict != wanted) {
+            printf("c: fault %lu: verdict %llx, played %llx, not %llx\n", (unsigned long)i,
+                   (unsigned long long)outcome.verdict, (unsigned long long)played.verdict,
+                   (unsigned long long)wanted);
+            exit(1);
+        }
+    }
+    free(bytes);
+}
+
 /* A lent length that a 16-bit word cuts to the stated one is still not equal to it. */
 static void try_far_too_long(size_t number, struct table table)
 {
@@ -257,6 +345,8 @@ int main(int count, char **words)
             try_slice_lengths(number, table, &outcome);
         if (number == FIFTH_TABLE)
             try_far_too_long(number, table);
+        if (number == SECTIONS_TABLE)
+            try_places(table);
     }
     if (number <= WORKED_TABLES) {
         printf("c: only %lu entries\n", (unsigned long)number);

@@ -19,6 +19,7 @@ use Rattle.tables.specs.declared.Refusal.{Refusal}
 use Rattle.tables.specs.declared.Refusal.the-variants.{NotPlayable}
 use Rattle.tables.specs.declared.Check.{Check}
 use Rattle.tables.specs.declared.Check.the-variants as check
+use Rattle.tables.specs.Fields.{taskCountField}
 use Rattle.tables.specs.Layout.{taskCount, rowCount, tasksOf, tableOf, jitterIn}
 use Rattle.tables.specs.Refusals.{at, isClean}
 use Rattle.tables.specs.Checks.{roomCheck, tableCheck}
@@ -29,7 +30,8 @@ use Rattle.response.specs.declared.Verdict.the-variants as verdict
 use Rattle.response.specs.Verdicts.{verdictPlace, isSchedulable}
 use Rattle.response.specs.Analysis.{answerOf}
 use Rattle.response.specs.Outcome.{lateIf, lateAt, resultOf, verdictFor}
-use Rattle.response.proofs.PlaceLaws.{refusal-place, result-place}
+use Rattle.tables.proofs.PlaceLaws.{refusal-place}
+use Rattle.response.proofs.PlaceLaws.{result-place}
 use Rattle.response.proofs.TableLaws.{task-is, tasks-count, tasks-fit}
 use Rattle.response.proofs.Demands.{refused-by, result-cases, answers-kept, verdict-given, plain-answer, answers-filled, result-is}
 use Rattle.engine.specs.Run.{engineAnswer}
@@ -147,7 +149,7 @@ playRefusals =
 
 -- the tasks of a table that breaks no rule are at most 32
 few : (bytes : List ℕ) → TableRight bytes → length (tasksOf bytes) ≤ 32
-few bytes right = omega (arith, tasks-count bytes, right .head .counts .tasksHigh)
+few bytes right = omega (arith, tasks-count bytes, right .head .counts taskCountField .high)
 
 pub tableEveryTick : TableEveryTick
 tableEveryTick bytes right = everyTick (tasksOf bytes) (tasks-fit bytes (right .records)) (few bytes right)
@@ -216,16 +218,16 @@ noSecondPlay bytes answers left leftOther v other o p =
     (o .verdictIs ∙ sym (p .verdictIs), o .answersAre ∙ sym (p .answersAre))
 
 -- the place of every verdict is small
-pub play-place : (bytes : List ℕ) (answers : ℕ) → verdictPlace (playVerdict bytes answers) < 256
+pub play-place : (bytes : List ℕ) (answers : ℕ) → verdictPlace (playVerdict bytes answers) < 65536
 unfolding playVerdict
 play-place bytes answers = go (playCheck bytes answers) refl
   where
-    go : (c : Check) → playCheck bytes answers ≡ c → verdictPlace (verdictFor c (resultOf (engineAnswer (tasksOf bytes)) (taskCount bytes))) < 256
+    go : (c : Check) → playCheck bytes answers ≡ c → verdictPlace (verdictFor c (resultOf (engineAnswer (tasksOf bytes)) (taskCount bytes))) < 65536
     go check.Clean e =
         omega (
           arith,
           result-place (engineAnswer (tasksOf bytes)) (taskCount bytes),
-          play-right bytes answers e .0 .head .counts .tasksHigh,
+          play-right bytes answers e .0 .head .counts taskCountField .high,
         )
     go (check.Refused r) e =
         elim (play-deserved bytes answers r e) [

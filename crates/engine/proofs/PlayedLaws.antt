@@ -18,6 +18,7 @@ use Rattle.model.proofs.First.{first-none, first-on, first-stop, first-same}
 use Rattle.tables.specs.declared.Refusal.{Refusal}
 use Rattle.tables.specs.declared.Refusal.the-variants.{NoRoom, NotPlayable}
 use Rattle.tables.specs.declared.Check.the-variants as check
+use Rattle.tables.specs.Fields.{taskCountField, periodField, costField, deadlineField}
 use Rattle.tables.specs.Layout.{taskCount, rowCount, tasksOf, jitterIn}
 use Rattle.tables.specs.Refusals.{at, firstIn, orElse, unless}
 use Rattle.tables.specs.Checks.{headCheck, recordsCheck, rowsCheck, tableCheck}
@@ -130,14 +131,14 @@ module _ (bytes : List ℕ) (n : ℕ) (periods costs deadlines jitters : List �
   pub tasks-held : TasksHeld periods costs n
   tasks-held =
       record {
-        some = omega (arith, head .counts .tasksLow, held .read .counted);
-        few = omega (arith, head .counts .tasksHigh, held .read .counted);
+        some = omega (arith, head .counts taskCountField .low, held .read .counted);
+        few = omega (arith, head .counts taskCountField .high, held .read .counted);
         periodsLong = held .periodsHeld .long;
         costsLong = held .costsHeld .long;
-        periodLow = λ p h. rw (held .periodsHeld .read p h) (right .numbers p (inside h) .periodLow);
-        periodHigh = λ p h. rw (held .periodsHeld .read p h) (right .numbers p (inside h) .periodHigh);
-        costLow = λ p h. rw (held .costsHeld .read p h) (right .numbers p (inside h) .costLow);
-        costHigh = λ p h. rw (held .costsHeld .read p h) (right .numbers p (inside h) .costHigh);
+        periodLow = λ p h. rw (held .periodsHeld .read p h) (right p (inside h) periodField .low);
+        periodHigh = λ p h. rw (held .periodsHeld .read p h) (right p (inside h) periodField .high);
+        costLow = λ p h. rw (held .costsHeld .read p h) (right p (inside h) costField .low);
+        costHigh = λ p h. rw (held .costsHeld .read p h) (right p (inside h) costField .high);
       }
 
   pub deadlines-held : DeadlinesHeld periods deadlines n
@@ -145,7 +146,7 @@ module _ (bytes : List ℕ) (n : ℕ) (periods costs deadlines jitters : List �
       record {
         long = held .deadlinesHeld .long;
         high = λ p h.
-            rw (held .periodsHeld .read p h, held .deadlinesHeld .read p h) (right .numbers p (inside h) .deadlineHigh);
+            rw (held .periodsHeld .read p h, held .deadlinesHeld .read p h) (right p (inside h) deadlineField .high);
       }
 
   -- the largest jitter

@@ -10,7 +10,8 @@ use Rattle.model.specs.Lists.{filled}
 use Rattle.tables.specs.declared.Refusal.{Refusal}
 use Rattle.tables.specs.declared.Refusal.the-variants.{NotPlayable}
 use Rattle.tables.specs.Layout.{taskCount, rowCount, tasksOf, tableOf, jitterIn}
-use Rattle.tables.specs.Meaning.{TableRight, RoomFor, Deserved}
+use Rattle.tables.specs.Meaning.{TableRight, RoomFor}
+use Rattle.tables.specs.Deserved.{Deserved}
 use Rattle.runs.specs.Schedule.{Schedule, LegalSchedule}
 use Rattle.runs.specs.Synchronous.{synchronous}
 use Rattle.response.specs.declared.Verdict.{Verdict}

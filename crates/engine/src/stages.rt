@@ -3,11 +3,10 @@ ghost use mathlib.Core.Path.{_≡_};
 ghost use Prim.Native.Nat.{_≤_};
 ghost use lib.ListN.{length};
 ghost use Rattle.model.specs.Lists.{wordOf};
-ghost use Rattle.tables.specs.Layout.{rowCount, costIn};
+ghost use Rattle.tables.specs.Layout.{rowCount, taskAt, costIn};
 ghost use Rattle.tables.specs.declared.Check.the-variants as check;
-ghost use Rattle.tables.specs.declared.records.First.the-variants as found;
-ghost use Rattle.tables.specs.Checks.{headCheck};
-ghost use Rattle.tables.specs.Reading.{firstRecord};
+ghost use Rattle.tables.specs.Checks.{headCheck, recordCheck};
+ghost use Rattle.tables.specs.Reading.{taskFrom};
 ghost use Rattle.response.specs.Outcome.{resultOf};
 ghost use Rattle.response.specs.Stages.{Holds};
 ghost use Rattle.engine.specs.Outcome.{Played, playCheck};
@@ -17,9 +16,11 @@ use machine::play_all;
 use model::Place;
 use response::Verdict;
 use tables::Check;
+use tables::HEAD_SIZE;
+use tables::ROW_COUNT_AT;
 use tables::Refusal;
+use tables::TASK_COUNT_AT;
 use tables::fields::count;
-use tables::records::First;
 use tables::records::TaskRecord;
 
 // The head is right: looks at the first record before room is made for all.
@@ -27,20 +28,22 @@ pub fn after_head(table: &[u8], answers: &mut [u32]) -> Verdict
     requires { ⌜ headCheck (now table) ≡ check.Clean ⌝ }
     ensures { λ r. ⌜ Played (now (table .entry)) (now (answers .entry)) r (now (answers .exit)) ⌝ }
 {
-    let found = tables::records::read_first(table);
-    match found {
-        First::Read(task) => after_first(table, task, answers),
-        First::Refused(refusal) => Verdict::Refused(refusal),
+    let task = tables::records::read(table, HEAD_SIZE);
+    let checked = tables::records::check_first(task);
+    match checked {
+        Check::Clean => after_first(table, task, answers),
+        Check::Refused(refusal) => Verdict::Refused(refusal),
     }
 }
 
 // The first record is right: reads the others.
 pub fn after_first(table: &[u8], first: TaskRecord, answers: &mut [u32]) -> Verdict
     requires { ⌜ headCheck (now table) ≡ check.Clean ⌝ }
-    requires { ⌜ found.Read first ≡ firstRecord (now table) ⌝ }
+    requires { ⌜ recordCheck (now table) 0 ≡ check.Clean ⌝ }
+    requires { ⌜ taskFrom first ≡ taskAt (now table) 0 ⌝ }
     ensures { λ r. ⌜ Played (now (table .entry)) (now (answers .entry)) r (now (answers .exit)) ⌝ }
 {
-    let n = count(table[3]);
+    let n = count(table[TASK_COUNT_AT]);
     let mut priorities = [0u8; 32];
     let mut periods = [0u32; 32];
     let mut costs = [0u32; 32];
@@ -79,7 +82,7 @@ pub fn after_records(
     requires { ⌜ NumbersHeld (now table) n (now periods) (now costs) (now deadlines) (now jitters) ⌝ }
     ensures { λ r. ⌜ Played (now (table .entry)) (now (answers .entry)) r (now (answers .exit)) ⌝ }
 {
-    let m = count(table[4]);
+    let m = count(table[ROW_COUNT_AT]);
     if m == 0 {
         return without_rows(table, n, periods, costs, deadlines, jitters, answers);
     }

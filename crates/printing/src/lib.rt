@@ -9,6 +9,7 @@ use response::Verdict;
 use tables::HEAD_SIZE;
 use tables::RECORD_SIZE;
 use tables::Refusal;
+use tables::TASK_COUNT_AT;
 
 mod pieces;
 
@@ -58,10 +59,10 @@ pub fn verdict_line(out: &mut [u8], at: usize, verdict: Verdict) -> usize
 pub fn task_count(table: &[u8]) -> usize
     ensures { λ r. ⌜ (r ≡ taskCount (now (table .entry))) × (r < 256) ⌝ }
 {
-    if table.len() <= 3 {
+    if table.len() <= TASK_COUNT_AT {
         return 0;
     }
-    tables::fields::count(table[3])
+    tables::fields::count(table[TASK_COUNT_AT])
 }
 
 // Appends a line of a word and a number.

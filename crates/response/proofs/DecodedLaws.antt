@@ -9,6 +9,7 @@ use Rattle.model.specs.Lists.{tabulate, filled, largestTo, largestOf}
 use Rattle.model.proofs.Lists.{length-filled}
 use Rattle.model.proofs.Filling.{filled-word}
 use Rattle.model.specs.Tables.{Task, Load, taskOf, loadOf, loadsOf}
+use Rattle.tables.specs.Fields.{taskCountField, rowCountField, periodField, costField, deadlineField, jitterField, placeField, semaphoreField, longestField}
 use Rattle.tables.specs.Layout.{taskCount, rowCount, taskAt, rowAt, tasksOf, rowsOf, tableOf, priorityIn, costIn, jitterIn, deadlineIn, placeIn, longestIn}
 use Rattle.tables.specs.Meaning.{HeadRight, RecordsRight, RowsRight}
 use Rattle.tables.proofs.CheckLaws.{head-right, records-right, rows-right}
@@ -49,10 +50,10 @@ module _ (bytes : List ℕ) (n m : ℕ) (priorities periods costs deadlines jitt
   row-inside h = omega (arith, rows .counted)
 
   place-inside : (k : ℕ) → k < m → placeIn bytes k < n
-  place-inside k h = omega (arith, rowsRight k (row-inside h) .place, records .counted)
+  place-inside k h = omega (arith, rowsRight k (row-inside h) placeField, records .counted)
 
   pub few-rows : m ≤ 64
-  few-rows = omega (arith, head .counts .rowsHigh, rows .counted)
+  few-rows = omega (arith, head .counts rowCountField .high, rows .counted)
 
   -- what the ceilings ask
   pub rows-held : RowsHeld priorities places semaphores m
@@ -62,7 +63,7 @@ module _ (bytes : List ℕ) (n m : ℕ) (priorities periods costs deadlines jitt
         semaphoresLong = rows .semaphoresHeld .long;
         placesLow = λ k h.
             rw (rows .placesHeld .read k h) (omega (arith, place-inside k h, records .prioritiesHeld .long));
-        semaphoresLow = λ k h. rw (rows .semaphoresHeld .read k h) (rowsRight k (row-inside h) .semaphoreHigh);
+        semaphoresLow = λ k h. rw (rows .semaphoresHeld .read k h) (rowsRight k (row-inside h) semaphoreField .high);
       }
 
   module _ (owners tops : List ℕ) (ownersHeld : Holds owners m (ownerAt priorities places))
@@ -71,22 +72,22 @@ module _ (bytes : List ℕ) (n m : ℕ) (priorities periods costs deadlines jitt
     longest-high k h =
         let row = rowsRight k (row-inside h) in
         rw (rows .longestHeld .read k h)
-        (omega (arith, row .longestHigh, tasksRight .numbers (placeIn bytes k) (row .place) .costHigh))
+        (omega (arith, row longestField .high, tasksRight (placeIn bytes k) (row placeField) costField .high))
 
     pub decoded-fits : DecodedFits (decoded priorities periods costs deadlines jitters owners tops longest m) n
     decoded-fits =
         record {
           loadsFit =
               record {
-                few = omega (arith, head .counts .tasksHigh, records .counted);
+                few = omega (arith, head .counts taskCountField .high, records .counted);
                 periodsLong = records .periodsHeld .long;
                 costsLong = records .costsHeld .long;
                 spreadsLong = records .jittersHeld .long;
                 each = λ k h.
                     record {
-                      periodLow = rw (records .periodsHeld .read k h) (tasksRight .numbers k (inside h) .periodLow);
-                      costHigh = rw (records .costsHeld .read k h) (tasksRight .numbers k (inside h) .costHigh);
-                      spreadHigh = rw (records .jittersHeld .read k h) (tasksRight .numbers k (inside h) .jitterHigh);
+                      periodLow = rw (records .periodsHeld .read k h) (tasksRight k (inside h) periodField .low);
+                      costHigh = rw (records .costsHeld .read k h) (tasksRight k (inside h) costField .high);
+                      spreadHigh = rw (records .jittersHeld .read k h) (tasksRight k (inside h) jitterField .high);
                     };
               };
           prioritiesLong = records .prioritiesHeld .long;
@@ -94,10 +95,10 @@ module _ (bytes : List ℕ) (n m : ℕ) (priorities periods costs deadlines jitt
           ownersLong = ownersHeld .long;
           topsLong = topsHeld .long;
           longestLong = rows .longestHeld .long;
-          costLow = λ i h. rw (records .costsHeld .read i h) (tasksRight .numbers i (inside h) .costLow);
+          costLow = λ i h. rw (records .costsHeld .read i h) (tasksRight i (inside h) costField .low);
           deadlineHigh = λ i h.
-              let numbers = tasksRight .numbers i (inside h) in
-              rw (records .deadlinesHeld .read i h) (omega (arith, numbers .deadlineHigh, numbers .periodHigh));
+              let numbers = tasksRight i (inside h) in
+              rw (records .deadlinesHeld .read i h) (omega (arith, numbers deadlineField .high, numbers periodField .high));
           longestHigh = longest-high;
         }
 

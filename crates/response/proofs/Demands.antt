@@ -23,7 +23,8 @@ use Rattle.tables.specs.declared.Check.the-variants as check
 use Rattle.tables.specs.Layout.{taskCount, rowCount, tasksOf, rowsOf, rowAt, tableOf}
 use Rattle.tables.specs.Refusals.{at, isClean}
 use Rattle.tables.specs.Checks.{tableCheck}
-use Rattle.tables.specs.Meaning.{TableRight, RoomFor, Deserved}
+use Rattle.tables.specs.Meaning.{TableRight, RoomFor}
+use Rattle.tables.specs.Deserved.{Deserved}
 use Rattle.tables.proofs.CheckLaws.{table-deserved, table-gives, table-right, table-clean}
 use Rattle.equation.specs.Answer.{answer}
 use Rattle.equation.specs.Sequence.{term, stops, rounds}

@@ -1,4 +1,4 @@
--- Every place that a verdict names is one of the table: below 64.
+-- How far on the place of a verdict can be.
 -- Assumes nothing.
 use Prim.Native.Nat.{ℕ, _+_, _*_, _≤_, _<_}
 use native.Mathlib.Omega.{arith}
@@ -10,31 +10,19 @@ use lib.Dec.{eqb}
 use Rattle.model.specs.Search.{firstOf}
 use Rattle.model.proofs.Tests.{bool?, clash}
 use Rattle.model.proofs.First as first-laws
-use Rattle.tables.specs.declared.Refusal.{Refusal}
-use Rattle.tables.specs.declared.Refusal.the-variants.{TooShort, UnknownVersion, CountOutOfRange, LengthsDiffer, NumberOutOfRange, PriorityOutOfOrder, SectionRow, NoRoom, NotPlayable}
 use Rattle.tables.specs.declared.Check.{Check}
 use Rattle.tables.specs.declared.Check.the-variants as check
+use Rattle.tables.specs.Fields.{taskCountField}
 use Rattle.tables.specs.Layout.{taskCount, tableOf}
-use Rattle.tables.specs.Refusals.{at, placeOf}
+use Rattle.tables.specs.Refusals.{at}
 use Rattle.tables.specs.Checks.{tableCheck}
-use Rattle.tables.specs.Meaning.{Deserved}
 use Rattle.tables.proofs.CheckLaws.{table-deserved, table-right}
+use Rattle.tables.proofs.PlaceLaws.{refusal-place}
 use Rattle.response.specs.declared.Verdict.{Verdict}
 use Rattle.response.specs.declared.Verdict.the-variants as verdict
 use Rattle.response.specs.Verdicts.{verdictPlace, isSchedulable}
 use Rattle.response.specs.Analysis.{answerOf}
 use Rattle.response.specs.Outcome.{lateIf, lateAt, resultOf, verdictFor, verdictOf}
-
-pub refusal-place : (bytes : List ℕ) (answers rounds : ℕ) (r : Refusal) → Deserved bytes answers rounds r → placeOf r < 256
-refusal-place bytes answers rounds TooShort d = omega arith
-refusal-place bytes answers rounds UnknownVersion d = omega arith
-refusal-place bytes answers rounds CountOutOfRange d = omega arith
-refusal-place bytes answers rounds LengthsDiffer d = omega arith
-refusal-place bytes answers rounds (NumberOutOfRange i) d = omega (arith, d .1, d .0 .counts .tasksHigh)
-refusal-place bytes answers rounds (PriorityOutOfOrder i) d = omega (arith, d .1, d .0 .counts .tasksHigh)
-refusal-place bytes answers rounds (SectionRow k) d = omega (arith, d .2, d .0 .counts .rowsHigh)
-refusal-place bytes answers rounds NoRoom d = omega arith
-refusal-place bytes answers rounds NotPlayable d = omega arith
 
 pub schedulable-only : (v : Verdict) → isSchedulable v ≡ true → v ≡ verdict.Schedulable
 schedulable-only (verdict.Refused r) p = absurd (clash false p refl)
@@ -58,15 +46,15 @@ result-place answers n =
           rw (g .2) (omega (arith, late-place (answers (g .0)) (g .0), g .1))
     ]
 
-pub verdict-place : (bytes : List ℕ) (answers rounds : ℕ) → verdictPlace (verdictOf bytes answers rounds) < 256
+pub verdict-place : (bytes : List ℕ) (answers rounds : ℕ) → verdictPlace (verdictOf bytes answers rounds) < 65536
 unfolding verdictOf
 verdict-place bytes answers rounds = go (tableCheck bytes answers rounds) refl
   where
-    go : (c : Check) → tableCheck bytes answers rounds ≡ c → verdictPlace (verdictFor c (resultOf (answerOf (tableOf bytes)) (taskCount bytes))) < 256
+    go : (c : Check) → tableCheck bytes answers rounds ≡ c → verdictPlace (verdictFor c (resultOf (answerOf (tableOf bytes)) (taskCount bytes))) < 65536
     go check.Clean e =
         omega (
           arith,
           result-place (answerOf (tableOf bytes)) (taskCount bytes),
-          table-right bytes answers rounds e .0 .head .counts .tasksHigh,
+          table-right bytes answers rounds e .0 .head .counts taskCountField .high,
         )
     go (check.Refused r) e = refusal-place bytes answers rounds r (table-deserved bytes answers rounds r e)

@@ -13,15 +13,17 @@ use Rattle.model.proofs.Tests.{both-true}
 use Rattle.tables.specs.Refusals.{isClean}
 use lib.ListN.{length, getD}
 use Rattle.model.specs.Lists.{filled}
+use Rattle.model.specs.Tables.{Task}
 use Rattle.tables.specs.declared.Refusal.{Refusal}
 use Rattle.tables.specs.declared.records.TaskRecord.{TaskRecord}
-use Rattle.tables.specs.declared.records.First.the-variants as first
+use Rattle.tables.specs.declared.Check.{Check}
 use Rattle.tables.specs.declared.Check.the-variants.{Clean, Refused}
-use Rattle.tables.specs.Layout.{taskCount, rowCount, recordStart, rowStart, priorityIn, periodIn, costIn, deadlineIn, jitterIn, placeIn, semaphoreIn, longestIn}
-use Rattle.tables.specs.Checks.{headCheck, recordsCheck, rowCheck, rowsCheck, recordsRead, rowsRead}
-use Rattle.tables.specs.Reading.{RecordsFit, RowsFit, firstRecord}
+use Rattle.tables.specs.Fields.{taskCountField, rowCountField}
+use Rattle.tables.specs.Layout.{taskCount, rowCount, recordStart, rowStart, taskAt, priorityIn, periodIn, costIn, deadlineIn, jitterIn, placeIn, semaphoreIn, longestIn}
+use Rattle.tables.specs.Checks.{headCheck, recordCheck, recordsCheck, rowCheck, rowsCheck, recordsRead, rowsRead}
+use Rattle.tables.specs.Reading.{RecordsFit, RowsFit, taskFrom, recordFault}
 use Rattle.tables.specs.Meaning.{HeadRight}
-use Rattle.tables.proofs.RecordLaws.{first-means, first-refuses}
+use Rattle.tables.proofs.RecordLaws.{first-fault, first-refuses}
 use Rattle.tables.proofs.CheckLaws.{head-right, records-all, rows-all}
 use Rattle.response.specs.Stages.{Holds, RecordsHeld, RowsRead}
 use Rattle.response.proofs.DecodedLaws.{holds-filled}
@@ -56,15 +58,19 @@ module _ (bytes : List ℕ) (clean : headCheck bytes ≡ Clean) where
 
   -- the first record stands whole in the table
   pub first-within : 22 ≤ length bytes
-  first-within = omega (arith, right .counts .tasksLow, right .lengths .summed)
+  first-within = omega (arith, right .counts taskCountField .low, right .lengths .summed)
 
-  -- a first record that is refused refuses the records
-  pub first-wrong : (r : Refusal) → first.Refused r ≡ firstRecord bytes → Refused r ≡ recordsCheck bytes
-  first-wrong r e = first-refuses bytes r (right .counts .tasksLow) e
+  -- the first record, as it was read and tested
+  module _ (task : Task) (is : task ≡ taskAt bytes 0) (small : task .priority < 256) (checked : Check) (found : checked ≡ recordFault task 5 256) where
+    pub first-right : checked ≡ Clean → recordCheck bytes 0 ≡ Clean
+    first-right e = sym (first-fault bytes task is small) ∙ sym found ∙ e
+
+    pub first-wrong : (r : Refusal) → checked ≡ Refused r → Refused r ≡ recordsCheck bytes
+    first-wrong r e = first-refuses bytes r (right .counts taskCountField .low) (sym (first-fault bytes task is small) ∙ sym found ∙ e)
 
   module _ (n : ℕ) (counted : n ≡ taskCount bytes) where
     few-tasks : n ≤ 32
-    few-tasks = omega (arith, right .counts .tasksHigh)
+    few-tasks = omega (arith, right .counts taskCountField .high)
 
     records-within : recordStart n ≤ length bytes
     records-within = omega (arith, right .lengths .summed)
@@ -77,22 +83,22 @@ module _ (bytes : List ℕ) (clean : headCheck bytes ≡ Clean) where
     module _ (priorities periods costs deadlines jitters : List ℕ) (prioritiesLong : length priorities ≡ 32)
         (periodsLong : length periods ≡ 32) (costsLong : length costs ≡ 32) (deadlinesLong : length deadlines ≡ 32)
         (jittersLong : length jitters ≡ 32) where
-      pub records-fit : (found : TaskRecord) → first.Read found ≡ firstRecord bytes →
-          getD priorities 0 0 ≡ found .priority .0 → getD periods 0 0 ≡ found .period .0 → getD costs 0 0 ≡ found .cost .0 →
-          getD deadlines 0 0 ≡ found .deadline .0 → getD jitters 0 0 ≡ found .jitter .0 →
+      pub records-fit : (first : TaskRecord) → recordCheck bytes 0 ≡ Clean → taskFrom first ≡ taskAt bytes 0 →
+          getD priorities 0 0 ≡ first .priority .0 → getD periods 0 0 ≡ first .period .0 → getD costs 0 0 ≡ first .cost .0 →
+          getD deadlines 0 0 ≡ first .deadline .0 → getD jitters 0 0 ≡ first .jitter .0 →
           RecordsFit bytes n priorities periods costs deadlines jitters
-      records-fit found e priority period cost deadline jitter =
-          let f = first-means bytes found e in
+      records-fit first firstClean is priority period cost deadline jitter =
           record {
             counted = counted;
-            some = omega (arith, right .counts .tasksLow);
+            some = omega (arith, right .counts taskCountField .low);
+            few = few-tasks;
             within = records-within;
-            firstClean = f .0;
-            firstPriority = priority ∙ ap (λ (r : TaskRecord). r .priority .0) (f .1);
-            firstPeriod = period ∙ ap (λ (r : TaskRecord). r .period .0) (f .1);
-            firstCost = cost ∙ ap (λ (r : TaskRecord). r .cost .0) (f .1);
-            firstDeadline = deadline ∙ ap (λ (r : TaskRecord). r .deadline .0) (f .1);
-            firstJitter = jitter ∙ ap (λ (r : TaskRecord). r .jitter .0) (f .1);
+            firstClean = firstClean;
+            firstPriority = priority ∙ ap (λ (t : Task). t .priority) is;
+            firstPeriod = period ∙ ap (λ (t : Task). t .period) is;
+            firstCost = cost ∙ ap (λ (t : Task). t .cost) is;
+            firstDeadline = deadline ∙ ap (λ (t : Task). t .deadline) is;
+            firstJitter = jitter ∙ ap (λ (t : Task). t .jitter) is;
             prioritiesLong = omega (arith, few-tasks);
             periodsLong = omega (arith, few-tasks);
             costsLong = omega (arith, few-tasks);
@@ -121,7 +127,7 @@ module _ (bytes : List ℕ) (clean : headCheck bytes ≡ Clean) where
 
     module _ (m : ℕ) (rowsCounted : m ≡ rowCount bytes) where
       few-rows : m ≤ 64
-      few-rows = omega (arith, right .counts .rowsHigh)
+      few-rows = omega (arith, right .counts rowCountField .high)
 
       filled-64 : (f : ℕ → ℕ) (old new : List ℕ) → rowsCheck bytes ≡ Clean → length old ≡ 64 → new ≡ filled f (rowsRead bytes) old → Holds new m f
       filled-64 f old new rows long e =
@@ -134,6 +140,8 @@ module _ (bytes : List ℕ) (clean : headCheck bytes ≡ Clean) where
             record {
               tasksCounted = counted;
               rowsCounted = rowsCounted;
+              fewTasks = few-tasks;
+              fewRows = few-rows;
               within = omega (arith, right .lengths .summed);
               placesLong = omega (arith, few-rows);
               semaphoresLong = omega (arith, few-rows);

@@ -11,6 +11,7 @@ use Rattle.model.specs.Lists.{tabulate, keep}
 use Rattle.model.specs.Tables.{Task, Load, taskOf, noTask, loadOf, loadsOf, moreUrgent}
 use Rattle.model.proofs.Lists.{getD-tabulate, length-tabulate}
 use Rattle.model.proofs.Keep.{keep-prefix, map-tabulate}
+use Rattle.tables.specs.Fields.{periodField, costField, deadlineField, priorityField}
 use Rattle.tables.specs.Layout.{taskCount, taskAt, tasksOf, priorityIn}
 use Rattle.tables.specs.Meaning.{RecordsRight}
 use Rattle.runs.specs.Jobs.{TasksFit}
@@ -27,13 +28,13 @@ module _ (bytes : List ℕ) where
     pub tasks-fit : TasksFit (tasksOf bytes)
     tasks-fit =
         record {
-          periodLow = λ i h. rw (task-is i (inside i h)) (right .numbers i (inside i h) .periodLow);
-          costLow = λ i h. rw (task-is i (inside i h)) (right .numbers i (inside i h) .costLow);
-          deadlineLow = λ i h. rw (task-is i (inside i h)) (right .numbers i (inside i h) .deadlineLow);
-          deadlineHigh = λ i h. rw (task-is i (inside i h)) (right .numbers i (inside i h) .deadlineHigh);
+          periodLow = λ i h. rw (task-is i (inside i h)) (right i (inside i h) periodField .low);
+          costLow = λ i h. rw (task-is i (inside i h)) (right i (inside i h) costField .low);
+          deadlineLow = λ i h. rw (task-is i (inside i h)) (right i (inside i h) deadlineField .low);
+          deadlineHigh = λ i h. rw (task-is i (inside i h)) (right i (inside i h) deadlineField .high);
           fall = λ i h.
               rw (task-is i (omega (arith, inside (suc i) h)), task-is (suc i) (inside (suc i) h))
-              (right .priorities (suc i) (inside (suc i) h) .falls i refl);
+              (right (suc i) (inside (suc i) h) priorityField .falls i refl);
         }
       where
         inside : (i : ℕ) → i < length (tasksOf bytes) → i < taskCount bytes

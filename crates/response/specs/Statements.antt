@@ -10,7 +10,8 @@ use Rattle.model.specs.Lists.{wordOf}
 use Rattle.model.specs.Tables.{Table, taskOf, loadsOf}
 use Rattle.tables.specs.declared.Refusal.{Refusal}
 use Rattle.tables.specs.Layout.{taskCount, rowCount, tasksOf, tableOf}
-use Rattle.tables.specs.Meaning.{TableRight, RoomFor, Deserved}
+use Rattle.tables.specs.Meaning.{TableRight, RoomFor}
+use Rattle.tables.specs.Deserved.{Deserved}
 use Rattle.equation.specs.Laws.{IsSmallest}
 use Rattle.equation.specs.Sequence.{term}
 use Rattle.runs.specs.Jobs.{NoJitter}

@@ -41,7 +41,7 @@ pub fn place(verdict: Verdict) -> usize
 
 // The verdict in one number, for C: the code in the upper 32 bits, the place in the lower 32.
 pub fn pack(verdict: Verdict) -> u64
-    requires { ⌜ verdictPlace verdict < 256 ⌝ }
+    requires { ⌜ verdictPlace verdict < 65536 ⌝ }
     ensures { λ r. ⌜ r ≡ packed verdict ⌝ }
 {
     (code(verdict) as u64) * 4294967296 + (place(verdict) as u64)

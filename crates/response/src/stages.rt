@@ -4,19 +4,20 @@ ghost use Prim.Native.Nat.{_≤_};
 ghost use lib.Dec.{leb};
 ghost use lib.ListN.{length};
 ghost use Rattle.model.specs.Choice.{both};
-ghost use Rattle.tables.specs.Layout.{rowCount};
+ghost use Rattle.tables.specs.Layout.{rowCount, taskAt};
 ghost use Rattle.tables.specs.declared.Check.the-variants as check;
-ghost use Rattle.tables.specs.declared.records.First.the-variants as found;
-ghost use Rattle.tables.specs.Checks.{headCheck};
-ghost use Rattle.tables.specs.Reading.{firstRecord};
+ghost use Rattle.tables.specs.Checks.{headCheck, recordCheck};
+ghost use Rattle.tables.specs.Reading.{taskFrom};
 ghost use Rattle.response.specs.Outcome.{Outcome};
 ghost use Rattle.response.specs.Stages.{RecordsHeld, RowsRead};
 use crate::Verdict;
 use crate::answering::answer_all;
 use tables::Check;
+use tables::HEAD_SIZE;
+use tables::ROW_COUNT_AT;
 use tables::Refusal;
+use tables::TASK_COUNT_AT;
 use tables::fields::count;
-use tables::records::First;
 use tables::records::TaskRecord;
 
 // The head is right: looks at the first record before room is made for all.
@@ -24,10 +25,11 @@ pub fn after_head(table: &[u8], answers: &mut [u32], rounds: &mut [u32]) -> Verd
     requires { ⌜ headCheck (now table) ≡ check.Clean ⌝ }
     ensures { λ r. ⌜ Outcome (now (table .entry)) (now (answers .entry)) (now (rounds .entry)) r (now (answers .exit)) (now (rounds .exit)) ⌝ }
 {
-    let found = tables::records::read_first(table);
-    match found {
-        First::Read(task) => after_first(table, task, answers, rounds),
-        First::Refused(refusal) => Verdict::Refused(refusal),
+    let task = tables::records::read(table, HEAD_SIZE);
+    let checked = tables::records::check_first(task);
+    match checked {
+        Check::Clean => after_first(table, task, answers, rounds),
+        Check::Refused(refusal) => Verdict::Refused(refusal),
     }
 }
 
@@ -39,10 +41,11 @@ pub fn after_first(
     rounds: &mut [u32],
 ) -> Verdict
     requires { ⌜ headCheck (now table) ≡ check.Clean ⌝ }
-    requires { ⌜ found.Read first ≡ firstRecord (now table) ⌝ }
+    requires { ⌜ recordCheck (now table) 0 ≡ check.Clean ⌝ }
+    requires { ⌜ taskFrom first ≡ taskAt (now table) 0 ⌝ }
     ensures { λ r. ⌜ Outcome (now (table .entry)) (now (answers .entry)) (now (rounds .entry)) r (now (answers .exit)) (now (rounds .exit)) ⌝ }
 {
-    let n = count(table[3]);
+    let n = count(table[TASK_COUNT_AT]);
     let mut priorities = [0u8; 32];
     let mut periods = [0u32; 32];
     let mut costs = [0u32; 32];
@@ -103,7 +106,7 @@ pub fn after_records(
     requires { ⌜ RecordsHeld (now table) n (now priorities) (now periods) (now costs) (now deadlines) (now jitters) ⌝ }
     ensures { λ r. ⌜ Outcome (now (table .entry)) (now (answers .entry)) (now (rounds .entry)) r (now (answers .exit)) (now (rounds .exit)) ⌝ }
 {
-    let m = count(table[4]);
+    let m = count(table[ROW_COUNT_AT]);
     if m == 0 {
         return without_rows(
             table,

@@ -12,11 +12,12 @@ use Rattle.model.specs.Choice.{both}
 use Rattle.model.proofs.Tests.{both-fail}
 use Rattle.tables.specs.declared.Check.{Check}
 use Rattle.tables.specs.declared.Check.the-variants.{Clean, Refused}
+use Rattle.tables.specs.declared.Refusal.{Refusal}
 use Rattle.tables.specs.declared.Refusal.the-variants.{TooShort, UnknownVersion, CountOutOfRange, LengthsDiffer}
 use Rattle.tables.specs.Layout.{byteAt, taskCount, rowCount, statedLength, lengthFor}
-use Rattle.tables.specs.Refusals.{firstIn, unless, orElse}
-use Rattle.tables.specs.Rules.{between, countsFit, lengthsAgree}
-use Rattle.tables.specs.Checks.{headCheck}
+use Rattle.tables.specs.Refusals.{offset, firstIn, unless, orElse, fieldsCheck}
+use Rattle.tables.specs.Rules.{between, countTest, lengthsAgree}
+use Rattle.tables.specs.Checks.{countsCheck, headCheck}
 
 module _ (bytes : List ℕ) where
   pub head-short : length bytes < 5 → Refused TooShort ≡ headCheck bytes
@@ -29,23 +30,26 @@ module _ (bytes : List ℕ) where
     head-version h = rw (le-leb 5 (length bytes) long, ne-eqb (byteAt bytes 0) 1 h)
 
     module _ (version : byteAt bytes 0 ≡ 1) where
-      head-counts : countsFit (taskCount bytes) (rowCount bytes) ≡ false → Refused CountOutOfRange ≡ headCheck bytes
+      head-counts : (r : Refusal) → countsCheck bytes ≡ Refused r → Refused r ≡ headCheck bytes
       unfolding firstIn headCheck unless orElse
-      head-counts h = rw (le-leb 5 (length bytes) long, eq-eqb (byteAt bytes 0) 1 version, h)
+      head-counts r h = rw (le-leb 5 (length bytes) long, eq-eqb (byteAt bytes 0) 1 version, h)
 
-      -- n or m, as the code has read it, is out of range
-      pub head-tasks : (n : ℕ) → n ≡ taskCount bytes → between 1 32 n ≡ false → Refused CountOutOfRange ≡ headCheck bytes
-      unfolding countsFit
-      head-tasks n e h = head-counts (rw (sym (ap (between 1 32) e) ∙ h))
+      -- n, as the code has read it, is out of range
+      pub head-tasks : (n : ℕ) → n ≡ taskCount bytes → between 1 32 n ≡ false → Refused (CountOutOfRange (offset 3)) ≡ headCheck bytes
+      unfolding countsCheck fieldsCheck firstIn unless orElse countTest
+      head-tasks n e h = head-counts (CountOutOfRange (offset 3)) (rw (sym (ap (between 1 32) e) ∙ h))
 
-      pub head-rows : (m : ℕ) → m ≡ rowCount bytes → between 0 64 m ≡ false → Refused CountOutOfRange ≡ headCheck bytes
-      unfolding countsFit
-      head-rows m e h = head-counts (both-fail (between 1 32 (taskCount bytes)) (between 0 64 (rowCount bytes)) (sym (ap (between 0 64) e) ∙ h))
+      -- n is in range, and m is not
+      pub head-rows : (n m : ℕ) → n ≡ taskCount bytes → m ≡ rowCount bytes → between 1 32 n ≡ true → between 0 64 m ≡ false →
+          Refused (CountOutOfRange (offset 4)) ≡ headCheck bytes
+      unfolding countsCheck fieldsCheck firstIn unless orElse countTest
+      head-rows n m tasks rows n-fits h =
+          head-counts (CountOutOfRange (offset 4)) (rw (sym (ap (between 1 32) tasks) ∙ n-fits, sym (ap (between 0 64) rows) ∙ h))
 
       module _ (n m : ℕ) (tasks : n ≡ taskCount bytes) (rows : m ≡ rowCount bytes) (n-fits : between 1 32 n ≡ true)
           (m-fits : between 0 64 m ≡ true) where
-        counts : countsFit (taskCount bytes) (rowCount bytes) ≡ true
-        unfolding countsFit
+        counts : countsCheck bytes ≡ Clean
+        unfolding countsCheck fieldsCheck firstIn unless orElse countTest
         counts = rw (sym (ap (between 1 32) tasks) ∙ n-fits, sym (ap (between 0 64) rows) ∙ m-fits)
 
         head-lengths : lengthsAgree bytes ≡ false → Refused LengthsDiffer ≡ headCheck bytes

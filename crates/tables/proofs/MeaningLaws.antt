@@ -13,30 +13,30 @@ use borrow.Author.Tests.{eqb-true, eq-eqb, ne-eqb, ltb-true, lt-ltb, leb-true, l
 use Rattle.model.specs.Choice.{both, either}
 use Rattle.model.specs.Tables.{Task, Row}
 use Rattle.model.proofs.Tests.{ltb?, both-true, both-pass, either-right, either-true, clash}
-use Rattle.tables.specs.Layout.{statedLength, taskCount, rowCount, lengthFor, taskAt, rowAt, costIn, priorityIn}
-use Rattle.tables.specs.Rules.{between, countsFit, lengthsAgree, numbersFit, priorityFits, rowAfter, rowHolds, rowInOrder, rowFits}
-use Rattle.tables.specs.Meaning.{CountsInRange, LengthsEqual, NumbersInRange, PriorityInOrder, RowsRise, RowInOrder, RoomFor}
+use Rattle.tables.specs.Layout.{statedLength, taskCount, rowCount, lengthFor, taskAt, rowAt, priorityIn, periodIn, costIn, deadlineIn, jitterIn, placeIn, semaphoreIn, longestIn}
+use Rattle.tables.specs.Fields.{CountField, taskCountField, rowCountField, RecordField, periodField, costField, deadlineField, jitterField, priorityField, RowField, placeField, semaphoreField, longestField, orderField}
+use Rattle.tables.specs.Rules.{between, countTest, lengthsAgree, priorityFits, recordTest, rowAfter, rowInOrder, rowTest}
+use Rattle.tables.specs.Checks.{rowTests}
+use Rattle.tables.specs.Meaning.{Within, CountRight, LengthsEqual, PriorityInOrder, RecordFieldRight, RowsRise, RowFieldRight, RoomFor}
 
-pub between-means : (low high x : ℕ) → between low high x ≡ true → (low ≤ x) × (x ≤ high)
+between-means : (low high x : ℕ) → between low high x ≡ true → Within low high x
 between-means low high x p =
     let b = both-true (leb low x) (leb x high) p in
-    (leb-true low x (b .0), leb-true x high (b .1))
+    record { low = leb-true low x (b .0); high = leb-true x high (b .1) }
 
-pub between-holds : (low high x : ℕ) → low ≤ x → x ≤ high → between low high x ≡ true
-between-holds low high x l h = both-pass (le-leb low x l) (le-leb x high h)
+between-holds : (low high x : ℕ) → Within low high x → between low high x ≡ true
+between-holds low high x w = both-pass (le-leb low x (w .low)) (le-leb x high (w .high))
 
 module _ (bytes : List ℕ) where
-  pub counts-mean : countsFit (taskCount bytes) (rowCount bytes) ≡ true → CountsInRange bytes
-  unfolding countsFit
-  counts-mean p =
-      let b = both-true (between 1 32 (taskCount bytes)) (between 0 64 (rowCount bytes)) p in
-      let n = between-means 1 32 (taskCount bytes) (b .0) in
-      record { tasksLow = n .0; tasksHigh = n .1; rowsHigh = between-means 0 64 (rowCount bytes) (b .1) .1 }
+  pub count-means : (field : CountField) → countTest (taskCount bytes) (rowCount bytes) field ≡ true → CountRight bytes field
+  unfolding countTest
+  count-means taskCountField p = between-means 1 32 (taskCount bytes) p
+  count-means rowCountField p = between-means 0 64 (rowCount bytes) p
 
-  pub counts-hold : CountsInRange bytes → countsFit (taskCount bytes) (rowCount bytes) ≡ true
-  unfolding countsFit
-  counts-hold c =
-      both-pass (between-holds 1 32 (taskCount bytes) (c .tasksLow) (c .tasksHigh)) (between-holds 0 64 (rowCount bytes) (omega arith) (c .rowsHigh))
+  pub count-holds : (field : CountField) → CountRight bytes field → countTest (taskCount bytes) (rowCount bytes) field ≡ true
+  unfolding countTest
+  count-holds taskCountField r = between-holds 1 32 (taskCount bytes) r
+  count-holds rowCountField r = between-holds 0 64 (rowCount bytes) r
 
   pub lengths-mean : lengthsAgree bytes ≡ true → LengthsEqual bytes
   unfolding lengthsAgree
@@ -48,36 +48,7 @@ module _ (bytes : List ℕ) where
   unfolding lengthsAgree
   lengths-hold l = both-pass (eq-eqb _ _ (l .stated)) (eq-eqb _ _ (l .summed))
 
-  pub numbers-mean : (i : ℕ) → numbersFit (taskAt bytes i) ≡ true → NumbersInRange bytes i
-  unfolding numbersFit
-  numbers-mean i p =
-      let t = taskAt bytes i in
-      let a = both-true (between 1 1000000 (t .period)) _ p in
-      let b = both-true (between 1 1000000 (t .cost)) _ (a .1) in
-      let c = both-true (between 1 (t .period) (t .deadline)) _ (b .1) in
-      let period = between-means 1 1000000 (t .period) (a .0) in
-      let cost = between-means 1 1000000 (t .cost) (b .0) in
-      let deadline = between-means 1 (t .period) (t .deadline) (c .0) in
-      record {
-        periodLow = period .0;
-        periodHigh = period .1;
-        costLow = cost .0;
-        costHigh = cost .1;
-        deadlineLow = deadline .0;
-        deadlineHigh = deadline .1;
-        jitterHigh = between-means 0 1000000 (t .jitter) (c .1) .1;
-      }
-
-  pub numbers-hold : (i : ℕ) → NumbersInRange bytes i → numbersFit (taskAt bytes i) ≡ true
-  unfolding numbersFit
-  numbers-hold i n =
-      let t = taskAt bytes i in
-      both-pass (between-holds 1 1000000 (t .period) (n .periodLow) (n .periodHigh))
-      (both-pass (between-holds 1 1000000 (t .cost) (n .costLow) (n .costHigh))
-      (both-pass (between-holds 1 (t .period) (t .deadline) (n .deadlineLow) (n .deadlineHigh))
-      (between-holds 0 1000000 (t .jitter) (omega arith) (n .jitterHigh))))
-
-  pub priority-means : (i : ℕ) → priorityFits bytes i ≡ true → PriorityInOrder bytes i
+  priority-means : (i : ℕ) → priorityFits bytes i ≡ true → PriorityInOrder bytes i
   unfolding priorityFits
   priority-means i p =
       let b = both-true (leb 1 (priorityIn bytes i)) _ p in
@@ -89,7 +60,7 @@ module _ (bytes : List ℕ) where
             subst (λ (j : ℕ). priorityIn bytes i < priorityIn bytes j) back (ltb-true _ _ second);
       }
 
-  pub priority-holds : (i : ℕ) → PriorityInOrder bytes i → priorityFits bytes i ≡ true
+  priority-holds : (i : ℕ) → PriorityInOrder bytes i → priorityFits bytes i ≡ true
   unfolding priorityFits
   priority-holds i o =
       both-pass (le-leb 1 (priorityIn bytes i) (o .positive)) (go i (o .falls))
@@ -101,6 +72,24 @@ module _ (bytes : List ℕ) where
           let back : suc k - 1 ≡ k = omega arith in
           either-right (eqb (suc k) 0) (ltb (priorityIn bytes i) (priorityIn bytes (suc k - 1)))
           (lt-ltb (priorityIn bytes i) (priorityIn bytes (suc k - 1)) (rw back (f k refl)))
+
+  pub record-means : (i : ℕ) (field : RecordField) → recordTest (taskAt bytes i) (priorityFits bytes i) field ≡ true →
+      RecordFieldRight bytes i field
+  unfolding recordTest
+  record-means i periodField p = between-means 1 1000000 (periodIn bytes i) p
+  record-means i costField p = between-means 1 1000000 (costIn bytes i) p
+  record-means i deadlineField p = between-means 1 (periodIn bytes i) (deadlineIn bytes i) p
+  record-means i jitterField p = between-means 0 1000000 (jitterIn bytes i) p
+  record-means i priorityField p = priority-means i p
+
+  pub record-holds : (i : ℕ) (field : RecordField) → RecordFieldRight bytes i field →
+      recordTest (taskAt bytes i) (priorityFits bytes i) field ≡ true
+  unfolding recordTest
+  record-holds i periodField r = between-holds 1 1000000 (periodIn bytes i) r
+  record-holds i costField r = between-holds 1 1000000 (costIn bytes i) r
+  record-holds i deadlineField r = between-holds 1 (periodIn bytes i) (deadlineIn bytes i) r
+  record-holds i jitterField r = between-holds 0 1000000 (jitterIn bytes i) r
+  record-holds i priorityField r = priority-holds i r
 
 rise-means : (before row : Row) → rowAfter before row ≡ true → RowsRise before row
 unfolding rowAfter
@@ -123,40 +112,31 @@ rise-holds before row r =
     ]
 
 module _ (bytes : List ℕ) where
-  pub row-means : (k : ℕ) → rowFits bytes k ≡ true → RowInOrder bytes k
-  unfolding rowHolds
-  row-means k p =
-      let row = rowAt bytes k in
-      let a = both-true (ltb (row .place) (taskCount bytes)) _ p in
-      let b = both-true (between 1 16 (row .semaphore)) _ (a .1) in
-      let c = both-true (between 1 (costIn bytes (row .place)) (row .longest)) _ (b .1) in
-      let semaphore = between-means 1 16 (row .semaphore) (b .0) in
-      let longest = between-means 1 (costIn bytes (row .place)) (row .longest) (c .0) in
-      record {
-        place = ltb-true (row .place) (taskCount bytes) (a .0);
-        semaphoreLow = semaphore .0;
-        semaphoreHigh = semaphore .1;
-        longestLow = longest .0;
-        longestHigh = longest .1;
-        rises = λ before e.
-            let back : k - 1 ≡ before = omega arith in
-            let second = either-true (eqb k 0) _ (c .1) (ne-eqb k 0 (λ (z : k ≡ 0). omega arith)) in
-            subst (λ (j : ℕ). RowsRise (rowAt bytes j) (rowAt bytes k)) back (rise-means (rowAt bytes (k - 1)) (rowAt bytes k) second);
-      }
+  in-order-means : (k : ℕ) (row : Row) → rowInOrder bytes k row ≡ true → (before : ℕ) → suc before ≡ k → RowsRise (rowAt bytes before) row
+  in-order-means k row p before e =
+      let back : k - 1 ≡ before = omega arith in
+      let second = either-true (eqb k 0) _ p (ne-eqb k 0 (λ (z : k ≡ 0). omega arith)) in
+      subst (λ (j : ℕ). RowsRise (rowAt bytes j) row) back (rise-means (rowAt bytes (k - 1)) row second)
 
-  pub row-holds : (k : ℕ) → RowInOrder bytes k → rowFits bytes k ≡ true
-  unfolding rowHolds
-  row-holds k r =
-      let row = rowAt bytes k in
-      both-pass (lt-ltb (row .place) (taskCount bytes) (r .place))
-      (both-pass (between-holds 1 16 (row .semaphore) (r .semaphoreLow) (r .semaphoreHigh))
-      (both-pass (between-holds 1 (costIn bytes (row .place)) (row .longest) (r .longestLow) (r .longestHigh)) (go k (r .rises))))
-    where
-      go : (j : ℕ) → ((before : ℕ) → suc before ≡ j → RowsRise (rowAt bytes before) (rowAt bytes k)) → rowInOrder bytes j (rowAt bytes k) ≡ true
-      go zero f = refl
-      go (suc j) f =
-          let back : suc j - 1 ≡ j = omega arith in
-          either-right (eqb (suc j) 0) (rowAfter (rowAt bytes (suc j - 1)) (rowAt bytes k)) (rw back (rise-holds (rowAt bytes j) (rowAt bytes k) (f j refl)))
+  in-order-holds : (k : ℕ) (row : Row) → ((before : ℕ) → suc before ≡ k → RowsRise (rowAt bytes before) row) → rowInOrder bytes k row ≡ true
+  in-order-holds zero row f = refl
+  in-order-holds (suc k) row f =
+      let back : suc k - 1 ≡ k = omega arith in
+      either-right (eqb (suc k) 0) (rowAfter (rowAt bytes (suc k - 1)) row) (rw back (rise-holds (rowAt bytes k) row (f k refl)))
+
+  pub row-means : (k : ℕ) (field : RowField) → rowTests bytes k field ≡ true → RowFieldRight bytes k field
+  unfolding rowTest
+  row-means k placeField p = ltb-true (placeIn bytes k) (taskCount bytes) p
+  row-means k semaphoreField p = between-means 1 16 (semaphoreIn bytes k) p
+  row-means k longestField p = between-means 1 (costIn bytes (placeIn bytes k)) (longestIn bytes k) p
+  row-means k orderField p = in-order-means k (rowAt bytes k) p
+
+  pub row-holds : (k : ℕ) (field : RowField) → RowFieldRight bytes k field → rowTests bytes k field ≡ true
+  unfolding rowTest
+  row-holds k placeField r = lt-ltb (placeIn bytes k) (taskCount bytes) r
+  row-holds k semaphoreField r = between-holds 1 16 (semaphoreIn bytes k) r
+  row-holds k longestField r = between-holds 1 (costIn bytes (placeIn bytes k)) (longestIn bytes k) r
+  row-holds k orderField r = in-order-holds k (rowAt bytes k) r
 
   pub room-means : (answers rounds : ℕ) → both (leb (taskCount bytes) answers) (leb (taskCount bytes) rounds) ≡ true → RoomFor bytes answers rounds
   room-means answers rounds p =

@@ -18,12 +18,13 @@ use Rattle.model.proofs.Tests.{ltb?, leb?, bool?, clash}
 use Rattle.model.proofs.First as first-laws
 use Rattle.tables.specs.declared.Check.{Check}
 use Rattle.tables.specs.declared.Check.the-variants.{Clean, Refused}
-use Rattle.tables.specs.declared.Refusal.the-variants.{SectionRow}
-use Rattle.tables.specs.Layout.{taskCount, rowCount, rowStart, rowFrom, rowAt, costIn, semaphoreIn}
-use Rattle.tables.specs.Refusals.{at, isClean, unless}
-use Rattle.tables.specs.Rules.{between, rowFits, rowHolds, rowInOrder, rowAfter}
+use Rattle.tables.specs.declared.Refusal.{Refusal}
+use Rattle.tables.specs.Layout.{taskCount, rowCount, rowStart, rowFrom, rowAt, costIn, placeIn, semaphoreIn}
+use Rattle.tables.specs.Refusals.{isClean, unless, orElse, firstIn, fieldsCheck}
+use Rattle.tables.specs.Fields.{rowOrder, rowRefusal}
+use Rattle.tables.specs.Rules.{between, rowInOrder, rowAfter, rowTest}
 use Rattle.tables.specs.Checks.{rowCheck, rowsCheck, rowsRead}
-use Rattle.tables.specs.Reading.{RowsFit, rowKey, rowRight}
+use Rattle.tables.specs.Reading.{RowsFit, rowKey, rowFault}
 
 -- the key of the row before row k: 0 before the first, which is below every key
 pub keyBefore : List ℕ → ℕ → ℕ
@@ -31,14 +32,16 @@ keyBefore bytes zero = 0
 keyBefore bytes (suc k) = rowKey (rowAt bytes k)
 
 -- before row k is read
-pub record Scanning (bytes : List ℕ) (n m : ℕ) (costs : List ℕ) (k offset before : ℕ) : Type 0 where
+pub record Scanning (bytes : List ℕ) (n m : ℕ) (costs : List ℕ) (k start before : ℕ) : Type 0 where
   pub tasksCounted : n ≡ taskCount bytes
   pub rowsCounted : m ≡ rowCount bytes
+  pub fewTasks : n ≤ 32
+  pub fewRows : m ≤ 64
   pub fits : rowStart n m ≤ length bytes
   pub costsLong : n ≤ length costs
   pub costsRead : (i : ℕ) → i < n → getD costs i 0 ≡ costIn bytes i
   pub within : k ≤ m
-  pub here : offset ≡ rowStart n k
+  pub here : start ≡ rowStart n k
   pub clean : firstOf isClean Clean (rowCheck bytes) k ≡ Clean
   pub last : before ≡ keyBefore bytes k
   pub byte : (j : ℕ) → suc j ≡ k → semaphoreIn bytes j < 256
@@ -60,10 +63,12 @@ key-order before row h g =
           ]
     ]
 
--- two tests in a row agree where the second agree wherever the first passes
-both-same : (a : Bool) {b c : Bool} → (a ≡ true → b ≡ c) → both a b ≡ both a c
-both-same true h = h refl
-both-same false h = refl
+-- two checks in a row agree where the second agree wherever the first is clean
+then-same : (test : Bool) (r : Refusal) {later later′ : Check} → (test ≡ true → later ≡ later′) →
+    orElse (unless test r) later ≡ orElse (unless test r) later′
+unfolding orElse unless
+then-same true r h = h refl
+then-same false r h = refl
 
 between-low : (low high x : ℕ) → between low high x ≡ true → low ≤ x
 between-low low high x p =
@@ -73,15 +78,16 @@ between-low low high x p =
     ]
 
 -- the rules of a row agree where the cost agrees at a place below n, and the order at a semaphore of at least 1
-holds-same : (n : ℕ) {cost cost′ : ℕ} {inOrder inOrder′ : Bool} (row : Row) → (row .place < n → cost ≡ cost′) →
-    (1 ≤ row .semaphore → inOrder ≡ inOrder′) → rowHolds n cost inOrder row ≡ rowHolds n cost′ inOrder′ row
-unfolding rowHolds
-holds-same n {cost} {cost′} {inOrder} {inOrder′} row costs orders =
-    both-same (ltb (row .place) n)
+row-same : (n start : ℕ) {cost cost′ : ℕ} {inOrder inOrder′ : Bool} (row : Row) → (row .place < n → cost ≡ cost′) →
+    (1 ≤ row .semaphore → inOrder ≡ inOrder′) →
+    fieldsCheck (rowTest n cost inOrder row) (rowRefusal start) rowOrder ≡ fieldsCheck (rowTest n cost′ inOrder′ row) (rowRefusal start) rowOrder
+unfolding fieldsCheck firstIn rowTest
+row-same n start {cost} {cost′} {inOrder} {inOrder′} row costs orders =
+    then-same (ltb (row .place) n) _
     (λ inside.
     rw (costs (ltb-true (row .place) n inside))
-    (both-same (between 1 16 (row .semaphore))
-    (λ right. ap (both (between 1 cost′ (row .longest))) (orders (between-low 1 16 (row .semaphore) right)))))
+    (then-same (between 1 16 (row .semaphore)) _
+    (λ right. rw (orders (between-low 1 16 (row .semaphore) right)))))
 
 module _ (bytes : List ℕ) (n m : ℕ) (costs : List ℕ) where
   pub scanning-none : {places semaphores longest : List ℕ} → RowsFit bytes n m costs places semaphores longest →
@@ -91,6 +97,8 @@ module _ (bytes : List ℕ) (n m : ℕ) (costs : List ℕ) where
       record {
         tasksCounted = f .tasksCounted;
         rowsCounted = f .rowsCounted;
+        fewTasks = f .fewTasks;
+        fewRows = f .fewRows;
         fits = f .within;
         costsLong = f .costsLong;
         costsRead = f .costsRead;
@@ -101,64 +109,76 @@ module _ (bytes : List ℕ) (n m : ℕ) (costs : List ℕ) where
         byte = λ j e. absurd (omega arith);
       }
 
-  module _ (k offset before : ℕ) (s : Scanning bytes n m costs k offset before) (h : k < m) (row : Row) (is : row ≡ rowFrom bytes offset)
+  module _ (k start before : ℕ) (s : Scanning bytes n m costs k start before) (h : k < m) (row : Row) (is : row ≡ rowFrom bytes start)
       (small : row .semaphore < 256) where
+    here : start ≡ rowStart (taskCount bytes) k
+    here = s .here ∙ ap (λ (t : ℕ). rowStart t k) (s .tasksCounted)
+
     -- what was read is the row of that number
     pub as-row : row ≡ rowAt bytes k
-    as-row = is ∙ ap (rowFrom bytes) (s .here ∙ ap (λ (t : ℕ). rowStart t k) (s .tasksCounted))
+    as-row = is ∙ ap (rowFrom bytes) here
+
+    semaphore-small : semaphoreIn bytes k < 256
+    semaphore-small = subst (λ (r : Row). r .semaphore < 256) as-row small
 
     -- the order test of the code is the rule's
-    order-test : 1 ≤ row .semaphore → ltb before (rowKey row) ≡ rowInOrder bytes k row
+    order-test : 1 ≤ semaphoreIn bytes k → ltb before (rowKey (rowAt bytes k)) ≡ rowInOrder bytes k (rowAt bytes k)
     unfolding keyBefore
     order-test one = go k (s .last) (s .byte)
       where
-        go : (k : ℕ) → before ≡ keyBefore bytes k → ((j : ℕ) → suc j ≡ k → semaphoreIn bytes j < 256) →
-            ltb before (rowKey row) ≡ either (eqb k 0) (rowAfter (rowAt bytes (k - 1)) row)
-        go zero e b = lt-ltb before (rowKey row) (omega (arith, e))
+        go : (j : ℕ) → before ≡ keyBefore bytes j → ((i : ℕ) → suc i ≡ j → semaphoreIn bytes i < 256) →
+            ltb before (rowKey (rowAt bytes k)) ≡ either (eqb j 0) (rowAfter (rowAt bytes (j - 1)) (rowAt bytes k))
+        go zero e b = lt-ltb before (rowKey (rowAt bytes k)) (omega (arith, e))
         go (suc j) e b =
             let back : suc j - 1 ≡ j = omega arith in
-            rw (e, back, ne-eqb (suc j) 0 (λ (z : suc j ≡ 0). omega arith)) (key-order (rowAt bytes j) row (b j refl) small)
+            rw (e, back, ne-eqb (suc j) 0 (λ (z : suc j ≡ 0). omega arith))
+            (key-order (rowAt bytes j) (rowAt bytes k) (b j refl) semaphore-small)
 
-    -- the test of the code is the rules'
-    pub row-test : rowRight n costs before row ≡ rowFits bytes k
-    row-test =
-        holds-same n row (λ inside. s .costsRead (row .place) inside) order-test
-        ∙ ap (λ (t : ℕ). rowHolds t (costIn bytes (row .place)) (rowInOrder bytes k row) row) (s .tasksCounted)
-        ∙ ap (λ (r : Row). rowHolds (taskCount bytes) (costIn bytes (r .place)) (rowInOrder bytes k r) r) as-row
+    -- what the code finds in the row is what the check of row k finds
+    fault-same : rowFault row start n costs before ≡ rowCheck bytes k
+    unfolding rowCheck
+    fault-same =
+        ap (λ (r : Row). rowFault r start n costs before) as-row
+        ∙ ap (λ (o : ℕ). rowFault (rowAt bytes k) o n costs before) here
+        ∙ row-same n (rowStart (taskCount bytes) k) (rowAt bytes k) (λ inside. s .costsRead (placeIn bytes k) inside) order-test
+        ∙ ap
+        (λ (t : ℕ).
+        fieldsCheck (rowTest t (costIn bytes (placeIn bytes k)) (rowInOrder bytes k (rowAt bytes k)) (rowAt bytes k))
+        (rowRefusal (rowStart (taskCount bytes) k)) rowOrder)
+        (s .tasksCounted)
 
-    pub row-wrong : rowRight n costs before row ≡ false → (Refused (SectionRow (at k)) ≡ rowsCheck bytes) × (rowsRead bytes ≡ k)
-    unfolding rowsCheck rowCheck unless
-    row-wrong wrong =
-        let e : rowCheck bytes k ≡ Refused (SectionRow (at k)) = rw (sym row-test ∙ wrong) in
-        let fault : isClean (rowCheck bytes k) ≡ false = ap isClean e in
-        let inside : k < rowCount bytes = omega (arith, s .rowsCounted) in (
-          sym (first-laws.first-stop isClean Clean refl (rowCheck bytes) k (s .clean) fault (rowCount bytes) inside ∙ e),
-          first-laws.count-stop isClean Clean refl (rowCheck bytes) k (s .clean) fault (rowCount bytes) inside,
-        )
+    module _ (checked : Check) (found : checked ≡ rowFault row start n costs before) where
+      pub row-wrong : (refusal : Refusal) → checked ≡ Refused refusal → (Refused refusal ≡ rowsCheck bytes) × (rowsRead bytes ≡ k)
+      unfolding rowsCheck
+      row-wrong refusal e =
+          let fault = sym fault-same ∙ sym found ∙ e in
+          let dirty : isClean (rowCheck bytes k) ≡ false = ap isClean fault in
+          let inside : k < rowCount bytes = omega (arith, s .rowsCounted) in (
+            sym (first-laws.first-stop isClean Clean refl (rowCheck bytes) k (s .clean) dirty (rowCount bytes) inside ∙ fault),
+            first-laws.count-stop isClean Clean refl (rowCheck bytes) k (s .clean) dirty (rowCount bytes) inside,
+          )
 
-    row-clean : rowRight n costs before row ≡ true → rowCheck bytes k ≡ Clean
-    unfolding rowCheck unless
-    row-clean right = rw (sym row-test ∙ right)
+      pub scanning-more : checked ≡ Clean → (next : ℕ) → next ≡ rowKey row → Scanning bytes n m costs (k + 1) (start + 6) next
+      unfolding keyBefore
+      scanning-more e next key =
+          record {
+            tasksCounted = s .tasksCounted;
+            rowsCounted = s .rowsCounted;
+            fewTasks = s .fewTasks;
+            fewRows = s .fewRows;
+            fits = s .fits;
+            costsLong = s .costsLong;
+            costsRead = s .costsRead;
+            within = omega arith;
+            here = omega (arith, s .here);
+            clean = first-laws.first-on isClean Clean refl (rowCheck bytes) k (s .clean) (sym fault-same ∙ sym found ∙ e);
+            last = rw add-one (key ∙ ap rowKey as-row);
+            byte = λ j p.
+                let same : j ≡ k = omega arith in
+                rw same semaphore-small;
+          }
 
-    pub scanning-more : rowRight n costs before row ≡ true → (next : ℕ) → next ≡ rowKey row → Scanning bytes n m costs (k + 1) (offset + 6) next
-    unfolding keyBefore
-    scanning-more right next e =
-        record {
-          tasksCounted = s .tasksCounted;
-          rowsCounted = s .rowsCounted;
-          fits = s .fits;
-          costsLong = s .costsLong;
-          costsRead = s .costsRead;
-          within = omega arith;
-          here = omega (arith, s .here);
-          clean = first-laws.first-on isClean Clean refl (rowCheck bytes) k (s .clean) (row-clean right);
-          last = rw add-one (e ∙ ap rowKey as-row);
-          byte = λ j p.
-              let same : j ≡ k = omega arith in
-              rw same (subst (λ (r : Row). r .semaphore < 256) as-row small);
-        }
-
-  pub scanning-all : {k offset before : ℕ} → Scanning bytes n m costs k offset before → m ≤ k → (Clean ≡ rowsCheck bytes) × (rowsRead bytes ≡ k)
+  pub scanning-all : {k start before : ℕ} → Scanning bytes n m costs k start before → m ≤ k → (Clean ≡ rowsCheck bytes) × (rowsRead bytes ≡ k)
   unfolding rowsCheck
   scanning-all {k} s h =
       let all : rowCount bytes ≡ k = omega (arith, s .rowsCounted, s .within) in

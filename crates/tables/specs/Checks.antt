@@ -1,33 +1,43 @@
 -- The refusals, as a list of checks in document 01's order ("Refusals").
 -- Assumes nothing.
 use Prim.Native.Nat.{ℕ}
+use mathlib.Core.Bool.{Bool}
 use mathlib.Core.List.{List, [], _∷_}
 use lib.Dec.{eqb, leb}
 use lib.ListN.{length}
 use Rattle.model.specs.Choice.{both}
 use Rattle.model.specs.Search.{firstOf, cleanCount}
 use Rattle.tables.specs.declared.Refusal.{Refusal}
-use Rattle.tables.specs.declared.Refusal.the-variants.{TooShort, UnknownVersion, CountOutOfRange, LengthsDiffer, NumberOutOfRange, PriorityOutOfOrder, SectionRow, NoRoom}
+use Rattle.tables.specs.declared.Refusal.the-variants.{TooShort, UnknownVersion, LengthsDiffer, NoRoom}
 use Rattle.tables.specs.declared.Check.{Check}
 use Rattle.tables.specs.declared.Check.the-variants.{Clean}
-use Rattle.tables.specs.Layout.{headSize, versionOf, taskCount, rowCount, taskAt}
-use Rattle.tables.specs.Refusals.{at, isClean, unless, orElse, firstIn}
-use Rattle.tables.specs.Rules.{countsFit, lengthsAgree, numbersFit, priorityFits, rowFits}
+use Rattle.tables.specs.Layout.{headSize, versionOf, taskCount, rowCount, recordStart, rowStart, taskAt, rowAt, costIn}
+use Rattle.tables.specs.Refusals.{isClean, unless, fieldsCheck, firstIn}
+use Rattle.tables.specs.Fields.{countOrder, countRefusal, recordOrder, recordRefusal, RowField, rowOrder, rowRefusal}
+use Rattle.tables.specs.Rules.{countTest, lengthsAgree, priorityFits, recordTest, rowInOrder, rowTest}
+
+-- refusal 3
+unfoldable pub countsCheck : List ℕ → Check
+countsCheck bytes = fieldsCheck (countTest (taskCount bytes) (rowCount bytes)) countRefusal countOrder
 
 -- "Task records are taken in order, each tested for 5 and then 6"
 unfoldable pub recordCheck : List ℕ → ℕ → Check
-recordCheck bytes i =
-    orElse (unless (numbersFit (taskAt bytes i)) (NumberOutOfRange (at i))) (unless (priorityFits bytes i) (PriorityOutOfOrder (at i)))
+recordCheck bytes i = fieldsCheck (recordTest (taskAt bytes i) (priorityFits bytes i)) (recordRefusal (recordStart i)) recordOrder
+
+-- the tests of row k, with the cost of the task that it names
+abbrev pub rowTests : List ℕ → ℕ → RowField → Bool
+rowTests bytes k =
+    rowTest (taskCount bytes) (costIn bytes (rowAt bytes k .place)) (rowInOrder bytes k (rowAt bytes k)) (rowAt bytes k)
 
 unfoldable pub rowCheck : List ℕ → ℕ → Check
-rowCheck bytes k = unless (rowFits bytes k) (SectionRow (at k))
+rowCheck bytes k = fieldsCheck (rowTests bytes k) (rowRefusal (rowStart (taskCount bytes) k)) rowOrder
 
 -- refusals 1 to 4
 abbrev pub headChecks : List ℕ → List Check
 headChecks bytes =
     unless (leb headSize (length bytes)) TooShort
     ∷ unless (eqb (versionOf bytes) 1) UnknownVersion
-    ∷ unless (countsFit (taskCount bytes) (rowCount bytes)) CountOutOfRange
+    ∷ countsCheck bytes
     ∷ unless (lengthsAgree bytes) LengthsDiffer
     ∷ []
 

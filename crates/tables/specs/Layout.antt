@@ -27,6 +27,13 @@ recordSize = 17
 abbrev pub rowSize : ℕ
 rowSize = 6
 
+-- where the two counts begin
+abbrev pub taskCountAt : ℕ
+taskCountAt = 3
+
+abbrev pub rowCountAt : ℕ
+rowCountAt = 4
+
 -- "1–2: length of the whole table in bytes", "3: n, number of tasks", "4: m, number of section rows"
 abbrev pub versionOf : List ℕ → ℕ
 versionOf bytes = byteAt bytes 0
@@ -35,10 +42,10 @@ abbrev pub statedLength : List ℕ → ℕ
 statedLength bytes = halfAt bytes 1
 
 abbrev pub taskCount : List ℕ → ℕ
-taskCount bytes = byteAt bytes 3
+taskCount bytes = byteAt bytes taskCountAt
 
 abbrev pub rowCount : List ℕ → ℕ
-rowCount bytes = byteAt bytes 4
+rowCount bytes = byteAt bytes rowCountAt
 
 -- "The length is 5 + 17n + 6m"
 abbrev pub lengthFor : ℕ → ℕ → ℕ
@@ -51,23 +58,49 @@ recordStart i = headSize + recordSize * i
 abbrev pub rowStart : ℕ → ℕ → ℕ
 rowStart n k = recordStart n + rowSize * k
 
--- "priority (1 byte), period T, cost C, deadline D, jitter J (4 bytes each)"
+-- "priority (1 byte), period T, cost C, deadline D, jitter J (4 bytes each)": where each begins in its record
+abbrev pub priorityAt : ℕ
+priorityAt = 0
+
+abbrev pub periodAt : ℕ
+periodAt = 1
+
+abbrev pub costAt : ℕ
+costAt = 5
+
+abbrev pub deadlineAt : ℕ
+deadlineAt = 9
+
+abbrev pub jitterAt : ℕ
+jitterAt = 13
+
 abbrev pub recordFrom : List ℕ → ℕ → Task
 recordFrom bytes at =
     record {
-      priority = byteAt bytes at;
-      period = wordAt bytes (at + 1);
-      cost = wordAt bytes (at + 5);
-      deadline = wordAt bytes (at + 9);
-      jitter = wordAt bytes (at + 13);
+      priority = byteAt bytes (at + priorityAt);
+      period = wordAt bytes (at + periodAt);
+      cost = wordAt bytes (at + costAt);
+      deadline = wordAt bytes (at + deadlineAt);
+      jitter = wordAt bytes (at + jitterAt);
     }
 
 abbrev pub taskAt : List ℕ → ℕ → Task
 taskAt bytes i = recordFrom bytes (recordStart i)
 
--- "task place (1), semaphore (1), longest section (4)"
+-- "task place (1), semaphore (1), longest section (4)": where each begins in its row
+abbrev pub placeAt : ℕ
+placeAt = 0
+
+abbrev pub semaphoreAt : ℕ
+semaphoreAt = 1
+
+abbrev pub longestAt : ℕ
+longestAt = 2
+
 abbrev pub rowFrom : List ℕ → ℕ → Row
-rowFrom bytes at = record { place = byteAt bytes at; semaphore = byteAt bytes (at + 1); longest = wordAt bytes (at + 2) }
+rowFrom bytes at =
+    record
+    { place = byteAt bytes (at + placeAt); semaphore = byteAt bytes (at + semaphoreAt); longest = wordAt bytes (at + longestAt) }
 
 abbrev pub rowAt : List ℕ → ℕ → Row
 rowAt bytes k = rowFrom bytes (rowStart (taskCount bytes) k)

@@ -1,6 +1,8 @@
 pub mod Layout
 pub mod Refusals
+pub mod Fields
 pub mod Rules
 pub mod Checks
 pub mod Reading
 pub mod Meaning
+pub mod Deserved

@@ -5,47 +5,38 @@ use mathlib.Core.Bool.{Bool}
 use mathlib.Core.Path.{_≡_}
 use mathlib.Core.List.{List}
 use lib.ListN.{length, getD}
-use lib.Dec.{ltb}
+use lib.Dec.{leb, ltb}
+use Rattle.model.specs.Choice.{both}
 use Rattle.model.specs.Tables.{Task, Row}
 use Rattle.tables.specs.declared.records.TaskRecord.{TaskRecord}
 use Rattle.tables.specs.declared.rows.RowRecord.{RowRecord}
-use Rattle.tables.specs.Rules.{rowHolds}
-use Rattle.tables.specs.declared.records.First.{First}
-use Rattle.tables.specs.declared.records.First.the-variants as first
-use Rattle.tables.specs.declared.records.First.the-variants.{Read}
+use Rattle.tables.specs.Fields.{recordOrder, recordRefusal, rowOrder, rowRefusal}
+use Rattle.tables.specs.Refusals.{fieldsCheck}
+use Rattle.tables.specs.Rules.{recordTest, rowTest}
 use Rattle.tables.specs.declared.Check.{Check}
-use Rattle.tables.specs.declared.Check.the-variants.{Clean, Refused}
+use Rattle.tables.specs.declared.Check.the-variants.{Clean}
 use Rattle.tables.specs.Checks.{recordCheck}
-use Rattle.tables.specs.Layout.{taskCount, rowCount, recordStart, rowStart, taskAt, priorityIn, periodIn, costIn, deadlineIn, jitterIn}
+use Rattle.tables.specs.Layout.{taskCount, rowCount, recordStart, rowStart, priorityIn, periodIn, costIn, deadlineIn, jitterIn}
 
 abbrev pub taskFrom : TaskRecord → Task
 taskFrom r =
     record
     { priority = r .priority .0; period = r .period .0; cost = r .cost .0; deadline = r .deadline .0; jitter = r .jitter .0 }
 
-abbrev pub recordOf : Task → TaskRecord
-recordOf t =
-    record {
-      priority = record { 0 = t .priority };
-      period = record { 0 = t .period };
-      cost = record { 0 = t .cost };
-      deadline = record { 0 = t .deadline };
-      jitter = record { 0 = t .jitter };
-    }
+-- a priority of at least 1, and below the one before
+abbrev pub falling : ℕ → ℕ → Bool
+falling above priority = both (leb 1 priority) (ltb priority above)
 
--- the first record, where its check is clean
-abbrev pub firstFor : Check → TaskRecord → First
-firstFor Clean record₀ = Read record₀
-firstFor (Refused r) record₀ = first.Refused r
+-- what is found in a record that begins at `start`, behind one of priority `above`
+abbrev pub recordFault : Task → ℕ → ℕ → Check
+recordFault task start above = fieldsCheck (recordTest task (falling above (task .priority))) (recordRefusal start) recordOrder
 
-unfoldable pub firstRecord : List ℕ → First
-firstRecord bytes = firstFor (recordCheck bytes 0) (recordOf (taskAt bytes 0))
-
--- n is the number of records, at least 1; the first is clean and stands in word 0 of each slice; the records end within the
+-- n is the number of records, 1 to 32; the first is clean and stands in word 0 of each slice; the records end within the
 -- bytes, and each slice has room for them
 pub record RecordsFit (bytes : List ℕ) (n : ℕ) (priorities periods costs deadlines jitters : List ℕ) : Type 0 where
   pub counted : n ≡ taskCount bytes
   pub some : 1 ≤ n
+  pub few : n ≤ 32
   pub within : recordStart n ≤ length bytes
   pub firstClean : recordCheck bytes 0 ≡ Clean
   pub firstPriority : getD priorities 0 0 ≡ priorityIn bytes 0
@@ -59,10 +50,12 @@ pub record RecordsFit (bytes : List ℕ) (n : ℕ) (priorities periods costs dea
   pub deadlinesLong : n ≤ length deadlines
   pub jittersLong : n ≤ length jitters
 
--- m is the number of rows, they end within the bytes, each slice has room for them, and the costs are those of the records
+-- n and m are the numbers of records and rows, the rows end within the bytes, each slice has room for them, and the costs are those of the records
 pub record RowsFit (bytes : List ℕ) (n m : ℕ) (costs places semaphores longest : List ℕ) : Type 0 where
   pub tasksCounted : n ≡ taskCount bytes
   pub rowsCounted : m ≡ rowCount bytes
+  pub fewTasks : n ≤ 32
+  pub fewRows : m ≤ 64
   pub within : rowStart n m ≤ length bytes
   pub placesLong : m ≤ length places
   pub semaphoresLong : m ≤ length semaphores
@@ -77,6 +70,7 @@ rowOf r = record { place = r .place .0; semaphore = r .semaphore; longest = r .l
 abbrev pub rowKey : Row → ℕ
 rowKey row = row .place * 256 + row .semaphore
 
--- the rules of a row, with the costs at hand and the key of the row before
-abbrev pub rowRight : ℕ → List ℕ → ℕ → Row → Bool
-rowRight n costs before row = rowHolds n (getD costs (row .place) 0) (ltb before (rowKey row)) row
+-- what is found in a row that begins at `start`, with the costs at hand and the key of the row before
+abbrev pub rowFault : Row → ℕ → ℕ → List ℕ → ℕ → Check
+rowFault row start n costs before =
+    fieldsCheck (rowTest n (getD costs (row .place) 0) (ltb before (rowKey row)) row) (rowRefusal start) rowOrder

@@ -7,6 +7,7 @@ use lib.Dec.{eqb, leb, ltb}
 use lib.ListN.{length}
 use Rattle.model.specs.Choice.{both, either}
 use Rattle.model.specs.Tables.{Task, Row}
+use Rattle.tables.specs.Fields.{CountField, taskCountField, rowCountField, RecordField, periodField, costField, deadlineField, jitterField, priorityField, RowField, placeField, semaphoreField, longestField, orderField}
 use Rattle.tables.specs.Layout.{byteAt, versionOf, statedLength, taskCount, rowCount, lengthFor, headSize, taskAt, rowAt, costIn}
 
 -- is x between low and high, both allowed?
@@ -14,38 +15,40 @@ abbrev pub between : ℕ → ℕ → ℕ → Bool
 between low high x = both (leb low x) (leb x high)
 
 -- "n, number of tasks, 1 to 32", "m, number of section rows, 0 to 64"
-unfoldable pub countsFit : ℕ → ℕ → Bool
-countsFit n m = both (between 1 32 n) (between 0 64 m)
+unfoldable pub countTest : ℕ → ℕ → CountField → Bool
+countTest n m taskCountField = between 1 32 n
+countTest n m rowCountField = between 0 64 m
 
 -- "stated length, lent length and 5 + 17n + 6m .. all equal"
 unfoldable pub lengthsAgree : List ℕ → Bool
 lengthsAgree bytes =
     both (eqb (statedLength bytes) (length bytes)) (eqb (lengthFor (taskCount bytes) (rowCount bytes)) (length bytes))
 
--- "T and C are 1 to 1,000,000. D is 1 to T. J is 0 to 1,000,000."
-unfoldable pub numbersFit : Task → Bool
-numbersFit t =
-    both (between 1 1000000 (t .period))
-    (both (between 1 1000000 (t .cost)) (both (between 1 (t .period) (t .deadline)) (between 0 1000000 (t .jitter))))
-
 -- "Priorities are 1 to 255 and strictly fall from each record to the next."
 unfoldable pub priorityFits : List ℕ → ℕ → Bool
 priorityFits bytes i =
     both (leb 1 (taskAt bytes i .priority)) (either (eqb i 0) (ltb (taskAt bytes i .priority) (taskAt bytes (i - 1) .priority)))
+
+-- "T and C are 1 to 1,000,000. D is 1 to T. J is 0 to 1,000,000.", and the priority, whose test needs the record before
+unfoldable pub recordTest : Task → Bool → RecordField → Bool
+recordTest t inOrder periodField = between 1 1000000 (t .period)
+recordTest t inOrder costField = between 1 1000000 (t .cost)
+recordTest t inOrder deadlineField = between 1 (t .period) (t .deadline)
+recordTest t inOrder jitterField = between 0 1000000 (t .jitter)
+recordTest t inOrder priorityField = inOrder
 
 -- "Rows strictly rise by place, then semaphore."
 unfoldable pub rowAfter : Row → Row → Bool
 rowAfter before row =
     either (ltb (before .place) (row .place)) (both (eqb (before .place) (row .place)) (ltb (before .semaphore) (row .semaphore)))
 
--- "A section row names a place 0 to n−1, a semaphore 1 to 16 and a length 1 to that task's C.", and stands in order
-unfoldable pub rowHolds : ℕ → ℕ → Bool → Row → Bool
-rowHolds n cost inOrder row =
-    both (ltb (row .place) n) (both (between 1 16 (row .semaphore)) (both (between 1 cost (row .longest)) inOrder))
-
+-- is row k in order, behind the row before it?
 abbrev pub rowInOrder : List ℕ → ℕ → Row → Bool
 rowInOrder bytes k row = either (eqb k 0) (rowAfter (rowAt bytes (k - 1)) row)
 
-abbrev pub rowFits : List ℕ → ℕ → Bool
-rowFits bytes k =
-    rowHolds (taskCount bytes) (costIn bytes (rowAt bytes k .place)) (rowInOrder bytes k (rowAt bytes k)) (rowAt bytes k)
+-- "A section row names a place 0 to n−1, a semaphore 1 to 16 and a length 1 to that task's C.", and stands in order
+unfoldable pub rowTest : ℕ → ℕ → Bool → Row → RowField → Bool
+rowTest n cost inOrder row placeField = ltb (row .place) n
+rowTest n cost inOrder row semaphoreField = between 1 16 (row .semaphore)
+rowTest n cost inOrder row longestField = between 1 cost (row .longest)
+rowTest n cost inOrder row orderField = inOrder

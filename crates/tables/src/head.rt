@@ -5,9 +5,12 @@ use crate::Check;
 use crate::HEAD_SIZE;
 use crate::MOST_ROWS;
 use crate::MOST_TASKS;
+use crate::Offset;
 use crate::RECORD_SIZE;
+use crate::ROW_COUNT_AT;
 use crate::ROW_SIZE;
 use crate::Refusal;
+use crate::TASK_COUNT_AT;
 use crate::fields::count;
 use crate::fields::half;
 use crate::fields::within;
@@ -21,13 +24,13 @@ pub fn check(table: &[u8]) -> Check
     if table[0] != 1 {
         return Check::Refused(Refusal::UnknownVersion);
     }
-    let n = count(table[3]);
-    let m = count(table[4]);
+    let n = count(table[TASK_COUNT_AT]);
+    let m = count(table[ROW_COUNT_AT]);
     if !within(1, MOST_TASKS, n as u32) {
-        return Check::Refused(Refusal::CountOutOfRange);
+        return Check::Refused(Refusal::CountOutOfRange(Offset(TASK_COUNT_AT)));
     }
     if !within(0, MOST_ROWS, m as u32) {
-        return Check::Refused(Refusal::CountOutOfRange);
+        return Check::Refused(Refusal::CountOutOfRange(Offset(ROW_COUNT_AT)));
     }
     if half(table, 1) as usize != table.len() {
         return Check::Refused(Refusal::LengthsDiffer);

@@ -1,7 +1,6 @@
 // House form, version 1: where each field stands, the refusals in their order, and the table that accepted bytes mean.
 ghost use mathlib.Core.Path.{_≡_};
 ghost use Rattle.tables.specs.Refusals.{numberOf, placeOf};
-use model::Place;
 
 pub mod fields;
 pub mod head;
@@ -15,6 +14,30 @@ pub const RECORD_SIZE: usize = 17;
 
 pub const ROW_SIZE: usize = 6;
 
+// Where fields begin: the two counts in the table, a task's numbers in its record, a section's in its row.
+pub const TASK_COUNT_AT: usize = 3;
+
+pub const ROW_COUNT_AT: usize = 4;
+
+pub const PRIORITY_AT: usize = 0;
+
+pub const PERIOD_AT: usize = 1;
+
+pub const COST_AT: usize = 5;
+
+pub const DEADLINE_AT: usize = 9;
+
+pub const JITTER_AT: usize = 13;
+
+pub const PLACE_AT: usize = 0;
+
+pub const SEMAPHORE_AT: usize = 1;
+
+pub const LONGEST_AT: usize = 2;
+
+// A row out of order is told at its first byte (document 02, L3).
+pub const ORDER_AT: usize = 0;
+
 // Limits: the numbers of tasks and rows, a period or a cost, a semaphore.
 pub const MOST_TASKS: u32 = 32;
 
@@ -24,15 +47,19 @@ pub const MOST_TICKS: u32 = 1000000;
 
 pub const MOST_SEMAPHORE: u32 = 16;
 
-// Why a table is refused, in the order of document 01's table. The last one is document 02's (L1): the analysis never gives it.
+// A byte's place in the table, counted from its first byte. It is no task's place.
+pub struct Offset(pub usize);
+
+// Why a table is refused, in the order of document 01's table, and where a field is at fault its first byte (document 02, L3). The
+// last one is document 02's (L1): the analysis never gives it.
 pub enum Refusal {
     TooShort,
     UnknownVersion,
-    CountOutOfRange,
+    CountOutOfRange(Offset),
     LengthsDiffer,
-    NumberOutOfRange(Place),
-    PriorityOutOfOrder(Place),
-    SectionRow(Place),
+    NumberOutOfRange(Offset),
+    PriorityOutOfOrder(Offset),
+    SectionRow(Offset),
     NoRoom,
     NotPlayable,
 }
@@ -50,7 +77,7 @@ pub fn number(refusal: Refusal) -> u32
     match refusal {
         Refusal::TooShort => 1,
         Refusal::UnknownVersion => 2,
-        Refusal::CountOutOfRange => 3,
+        Refusal::CountOutOfRange(_) => 3,
         Refusal::LengthsDiffer => 4,
         Refusal::NumberOutOfRange(_) => 5,
         Refusal::PriorityOutOfOrder(_) => 6,
@@ -60,14 +87,14 @@ pub fn number(refusal: Refusal) -> u32
     }
 }
 
-// The place of the fault in document 01.
+// The place of the fault: the faulty field's first byte, and 0 where no field is at fault.
 pub fn place(refusal: Refusal) -> usize
     ensures { λ r. ⌜ r ≡ placeOf refusal ⌝ }
 {
     match refusal {
         Refusal::TooShort => 0,
         Refusal::UnknownVersion => 0,
-        Refusal::CountOutOfRange => 0,
+        Refusal::CountOutOfRange(at) => at.0,
         Refusal::LengthsDiffer => 0,
         Refusal::NumberOutOfRange(at) => at.0,
         Refusal::PriorityOutOfOrder(at) => at.0,

@@ -5,13 +5,18 @@ ghost use lib.ListN.{length};
 ghost use Rattle.model.specs.Lists.{filled};
 ghost use Rattle.tables.specs.Layout.{rowFrom, placeIn, semaphoreIn, longestIn};
 ghost use Rattle.tables.specs.Checks.{rowsCheck, rowsRead};
-ghost use Rattle.tables.specs.Reading.{rowOf, rowKey, rowRight, RowsFit};
+ghost use Rattle.tables.specs.Reading.{rowOf, rowKey, rowFault, RowsFit};
 use crate::Check;
 use crate::HEAD_SIZE;
+use crate::LONGEST_AT;
 use crate::MOST_SEMAPHORE;
+use crate::ORDER_AT;
+use crate::Offset;
+use crate::PLACE_AT;
 use crate::RECORD_SIZE;
 use crate::ROW_SIZE;
 use crate::Refusal;
+use crate::SEMAPHORE_AT;
 use crate::fields::count;
 use crate::fields::wide;
 use crate::fields::within;
@@ -33,9 +38,9 @@ pub fn read(table: &[u8], at: usize) -> RowRecord
     ensures { λ r. ⌜ (r .place .0 < 256) × (r .semaphore < 256) ⌝ }
 {
     RowRecord {
-        place: Place(count(table[at])),
-        semaphore: table[at + 1],
-        longest: Ticks(word(table, at + 2)),
+        place: Place(count(table[at + PLACE_AT])),
+        semaphore: table[at + SEMAPHORE_AT],
+        longest: Ticks(word(table, at + LONGEST_AT)),
     }
 }
 
@@ -47,23 +52,28 @@ fn key(row: RowRecord) -> u32
     (row.place.0 as u32) * 256 + wide(row.semaphore)
 }
 
-// Is the row right? Its place is tested before a cost is looked up by it.
-fn fits(row: RowRecord, n: usize, costs: &[u32], before: u32) -> bool
+// Tests the row that begins at `at`: place, semaphore, length and then its order behind the row before (document 02, L3). The first
+// that is wrong is refused at its own first byte. The place is tested before a cost is looked up by it.
+fn check(row: RowRecord, at: usize, n: usize, costs: &[u32], before: u32) -> Check
+    requires { ⌜ at < 65536 ⌝ }
     requires { ⌜ (row .place .0 < 256) × (row .semaphore < 256) ⌝ }
     requires { ⌜ n ≤ length (now costs) ⌝ }
-    ensures { λ r. ⌜ r ≡ rowRight n (now (costs .entry)) before (rowOf row) ⌝ }
+    ensures { λ r. ⌜ r ≡ rowFault (rowOf row) at n (now (costs .entry)) before ⌝ }
 {
     let place = row.place.0;
     if n <= place {
-        return false;
+        return Check::Refused(Refusal::SectionRow(Offset(at + PLACE_AT)));
     }
     if !within(1, MOST_SEMAPHORE, wide(row.semaphore)) {
-        return false;
+        return Check::Refused(Refusal::SectionRow(Offset(at + SEMAPHORE_AT)));
     }
     if !within(1, costs[place], row.longest.0) {
-        return false;
+        return Check::Refused(Refusal::SectionRow(Offset(at + LONGEST_AT)));
     }
-    before < key(row)
+    if key(row) <= before {
+        return Check::Refused(Refusal::SectionRow(Offset(at + ORDER_AT)));
+    }
+    Check::Clean
 }
 
 // Takes the m rows in order, and keeps the fields of those before the first fault.
@@ -87,13 +97,16 @@ pub fn read_all(
     let mut at = HEAD_SIZE + RECORD_SIZE * n;
     for k in 0..m {
         let row = read(table, at);
-        if !fits(row, n, costs, before) {
-            return Check::Refused(Refusal::SectionRow(Place(k)));
+        let checked = check(row, at, n, costs, before);
+        match checked {
+            Check::Clean => {
+                places[k] = row.place.0 as u8;
+                semaphores[k] = row.semaphore;
+                longest[k] = row.longest.0;
+                before = key(row);
+            }
+            Check::Refused(refusal) => return Check::Refused(refusal),
         }
-        places[k] = row.place.0 as u8;
-        semaphores[k] = row.semaphore;
-        longest[k] = row.longest.0;
-        before = key(row);
         at += ROW_SIZE;
     }
     Check::Clean

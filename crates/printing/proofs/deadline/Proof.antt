@@ -21,7 +21,7 @@ read-requires : tie.Need-read-requires
 read-requires c κs = search needs
 
 returns-2 : tie.Need-returns-2
-returns-2 c = deadline-read (c .before .before .before .args .table .now) _ _ (c .before .if1 .left) (c .read .ensures)
+returns-2 c = deadline-read (c .before .before .before .args .table .now) _ _ (c .before .if1 .left) (c .read .ensures .0)
 
 pub deadline-spec : {M : Type 1} → statement M
 deadline-spec = tie.close (tie.spec mul-at add-at add-if1 returns read-requires returns-2)

@@ -45,7 +45,7 @@ slice-aggregate-read-rest-5 : tie.Need-slice-aggregate-read-rest-5
 slice-aggregate-read-rest-5 c = search needs
 
 read-rest-requires : tie.Need-read-rest-requires
-read-rest-requires c κs = records-fit _ (c .before .before .before .before .before .before .before .before .before .before .pre .0) _ (c .before .before .before .before .before .count .ensures .0) _ _ _ _ _ refl refl refl refl refl _ (c .before .before .before .before .before .before .before .before .before .before .pre .1) refl refl refl refl refl
+read-rest-requires c κs = records-fit _ (c .before .before .before .before .before .before .before .before .before .before .pre .0) _ (c .before .before .before .before .before .count .ensures .0) _ _ _ _ _ refl refl refl refl refl _ (c .before .before .before .before .before .before .before .before .before .before .pre .1 .0) (c .before .before .before .before .before .before .before .before .before .before .pre .1 .1) refl refl refl refl refl
 
 enum-told : tie.Need-enum-told
 enum-told c = search needs

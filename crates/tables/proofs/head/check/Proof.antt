@@ -44,7 +44,7 @@ within-requires-2 : tie.Need-within-requires-2
 within-requires-2 c κs = search needs
 
 returns-4 : tie.Need-returns-4
-returns-4 c = head-rows _ (c .before .before .before .before .before .before .before .before .before .before .if1 .left) (c .before .before .before .before .before .before .before .before .if2 .left) _ (c .before .before .before .before .count2 .ensures .0) (refuted (c .before .within2 .ensures) (c .if4 .taken))
+returns-4 c = head-rows _ (c .before .before .before .before .before .before .before .before .before .before .if1 .left) (c .before .before .before .before .before .before .before .before .if2 .left) _ _ (c .before .before .before .before .before .before .count .ensures .0) (c .before .before .before .before .count2 .ensures .0) (confirmed (c .before .before .before .within .ensures) (c .before .before .if3 .left)) (refuted (c .before .within2 .ensures) (c .if4 .taken))
 
 half-requires : tie.Need-half-requires
 half-requires c κs = search needs

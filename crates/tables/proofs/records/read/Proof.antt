@@ -1,13 +1,18 @@
 -- `tables::records::read` meets its contract, field by field.
 -- Assumes nothing.
 use mathlib.Core.Path.{refl}
+use native.Mathlib.Omega.{arith}
+use Prim.Native.Nat.{_+_}
 use Rattle.model.proofs.Tasks.{same-task}
 use borrow.Author.Needs.{needs}
 use Rattle.tables.proofs.records.read.Statement.{statement}
 use Rattle.tables.proofs.records.read.Tie as tie
 
-shared-slice-read-t4 : tie.Need-shared-slice-read-t4
-shared-slice-read-t4 c = search needs
+add-t3 : tie.Need-add-t3
+add-t3 c = search needs
+
+shared-slice-read-t5 : tie.Need-shared-slice-read-t5
+shared-slice-read-t5 c = search needs
 
 add-word : tie.Need-add-word
 add-word c = search needs
@@ -34,13 +39,15 @@ word-requires-4 : tie.Need-word-requires-4
 word-requires-4 c κs = search needs
 
 returns : tie.Need-returns
-returns c = same-task _ _ refl (c .before .before .before .word .ensures) (c .before .before .word2 .ensures) (c .before .word3 .ensures) (c .word4 .ensures)
+returns c =
+    (same-task _ _ refl (c .before .before .before .word .ensures) (c .before .before .word2 .ensures) (c .before .word3 .ensures) (c .word4 .ensures), omega (arith, c .before .before .before .before .before .shared-slice-known .given (c .before .before .before .before .before .before .args .at + 0)))
 
 pub read-spec : {M : Type 1} → statement M
 read-spec =
     tie.close
     (tie.spec
-    shared-slice-read-t4
+    add-t3
+    shared-slice-read-t5
     add-word
     word-requires
     add-word-2

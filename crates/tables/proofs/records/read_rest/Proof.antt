@@ -1,19 +1,19 @@
--- `tables::records::read_rest` meets its contract: each turn reads one record, by the laws of `RecordLaws`, and fills one word of each slice.
+-- `tables::records::read_rest` meets its contract: each turn takes one record, by the laws of `RecordLaws`, and fills one word of each slice.
 -- Assumes nothing.
 use Prim.Native.Nat.{_-_}
 use native.Mathlib.Omega.{arith}
-use mathlib.Core.Path.{_≡_, ap}
-use Rattle.model.proofs.Tests.{refuted, confirmed}
+use mathlib.Core.Path.{_≡_, _∙_, ap}
+use borrow.Author.Needs.{needs}
 use Rattle.model.specs.Tables.{Task}
-use Rattle.model.proofs.Filling.{Filling, filling-one, filling-more, filling-at}
+use Rattle.model.proofs.Filling.{Filling, filling-one, filling-more, filling-at, filled-word}
 use Rattle.tables.specs.Layout.{priorityIn, periodIn, costIn, deadlineIn, jitterIn}
-use Rattle.tables.proofs.RecordLaws.{Reading, reading-one, as-task, numbers-wrong, priority-wrong, reading-more, reading-all}
+use Rattle.tables.proofs.RecordLaws.{Reading, reading-one, as-task, record-wrong, reading-more, reading-all}
 use Rattle.tables.proofs.records.read_rest.Statement.{statement}
 use Rattle.tables.proofs.records.read_rest.Tie as tie
 
 abbrev Inv-loop : tie.InvT-loop
-Inv-loop table n priorities₀ periods₀ costs₀ deadlines₀ jitters₀ before₀ at₀ i₀ priorities periods costs deadlines jitters before at i =
-    Reading table n i at before
+Inv-loop table n priorities₀ periods₀ costs₀ deadlines₀ jitters₀ at₀ i₀ priorities periods costs deadlines jitters at i =
+    Reading table n i at
     × Filling (priorityIn table) n i priorities₀ priorities
     × Filling (periodIn table) n i periods₀ periods
     × Filling (costIn table) n i costs₀ costs
@@ -21,21 +21,15 @@ Inv-loop table n priorities₀ periods₀ costs₀ deadlines₀ jitters₀ befor
     × Filling (jitterIn table) n i jitters₀ jitters
 
 abbrev μ-loop : tie.MeasureT-loop
-μ-loop table n priorities₀ periods₀ costs₀ deadlines₀ jitters₀ before₀ at₀ i₀ priorities periods costs deadlines jitters before at i = n - i
-
-slice-read-wide : tie.Need-slice-read-wide Inv-loop μ-loop
-slice-read-wide c = omega (arith, c .before .before .before .before .before .before .before .pre)
-
-wide-requires : tie.Need-wide-requires Inv-loop μ-loop
-wide-requires c κs = omega arith
+μ-loop table n priorities₀ periods₀ costs₀ deadlines₀ jitters₀ at₀ i₀ priorities periods costs deadlines jitters at i = n - i
 
 add-at : tie.Need-add-at Inv-loop μ-loop
 add-at c = omega arith
 
 loop-holds : tie.Need-loop-holds Inv-loop μ-loop
 loop-holds c =
-    let p = c .before .before .before .before .before .before .before .before .pre in (
-      reading-one _ _ p _ (c .wide .ensures .0),
+    let p = c .before .before .before .before .before .before .pre in (
+      reading-one _ _ p,
       filling-one _ _ _ (p .some) (p .prioritiesLong) (p .firstPriority),
       filling-one _ _ _ (p .some) (p .periodsLong) (p .firstPeriod),
       filling-one _ _ _ (p .some) (p .costsLong) (p .firstCost),
@@ -46,60 +40,20 @@ loop-holds c =
 read-requires : tie.Need-read-requires Inv-loop μ-loop
 read-requires c κs = omega (arith, c .before .loop .inv .0 .here, c .before .loop .inv .0 .fits, c .loop-test .taken)
 
-numbers-fit-requires : tie.Need-numbers-fit-requires Inv-loop μ-loop
-numbers-fit-requires c κs = omega arith
+sub-wide : tie.Need-sub-wide Inv-loop μ-loop
+sub-wide c = omega (arith, c .before .before .loop .inv .0 .some)
 
-same-length : tie.Need-same-length Inv-loop μ-loop
-same-length c = c .before .before .before .before .loop .inv .1 .long
+slice-read-wide : tie.Need-slice-read-wide Inv-loop μ-loop
+slice-read-wide c = omega (arith, c .before .before .before .loop .inv .0 .some, c .before .before .before .loop .inv .1 .long, c .before .before .before .loop .inv .1 .room, c .before .before .loop-test .taken)
 
-same-length-2 : tie.Need-same-length-2 Inv-loop μ-loop
-same-length-2 c = c .before .before .before .before .loop .inv .2 .long
+wide-requires : tie.Need-wide-requires Inv-loop μ-loop
+wide-requires c κs = omega arith
 
-same-length-3 : tie.Need-same-length-3 Inv-loop μ-loop
-same-length-3 c = c .before .before .before .before .loop .inv .3 .long
+check-requires : tie.Need-check-requires Inv-loop μ-loop
+check-requires c κs = omega (arith, c .before .before .before .before .loop .inv .0 .here, c .before .before .before .before .loop .inv .0 .few, c .before .before .before .loop-test .taken)
 
-same-length-4 : tie.Need-same-length-4 Inv-loop μ-loop
-same-length-4 c = c .before .before .before .before .loop .inv .4 .long
-
-same-length-5 : tie.Need-same-length-5 Inv-loop μ-loop
-same-length-5 c = c .before .before .before .before .loop .inv .5 .long
-
-returns : tie.Need-returns Inv-loop μ-loop
-returns c =
-    let v = c .before .before .before .before .loop .inv in
-    let w = numbers-wrong _ _ _ _ _ (v .0) (c .before .before .before .loop-test .taken) _ (c .before .before .read .ensures) (refuted (c .before .numbers-fit .ensures) (c .if1 .taken)) in
-    (w .0, (filling-at _ _ _ _ _ (v .1) _ (w .1), (filling-at _ _ _ _ _ (v .2) _ (w .1), (filling-at _ _ _ _ _ (v .3) _ (w .1), (filling-at _ _ _ _ _ (v .4) _ (w .1), filling-at _ _ _ _ _ (v .5) _ (w .1))))))
-
-wide-requires-2 : tie.Need-wide-requires-2 Inv-loop μ-loop
-wide-requires-2 c κs = omega arith
-
-sub-within : tie.Need-sub-within Inv-loop μ-loop
-sub-within c = omega (arith, c .before .before .before .before .before .loop .inv .0 .low)
-
-within-requires : tie.Need-within-requires Inv-loop μ-loop
-within-requires c κs = omega arith
-
-same-length-6 : tie.Need-same-length-6 Inv-loop μ-loop
-same-length-6 c = c .before .before .before .before .before .before .before .loop .inv .1 .long
-
-same-length-7 : tie.Need-same-length-7 Inv-loop μ-loop
-same-length-7 c = c .before .before .before .before .before .before .before .loop .inv .2 .long
-
-same-length-8 : tie.Need-same-length-8 Inv-loop μ-loop
-same-length-8 c = c .before .before .before .before .before .before .before .loop .inv .3 .long
-
-same-length-9 : tie.Need-same-length-9 Inv-loop μ-loop
-same-length-9 c = c .before .before .before .before .before .before .before .loop .inv .4 .long
-
-same-length-10 : tie.Need-same-length-10 Inv-loop μ-loop
-same-length-10 c = c .before .before .before .before .before .before .before .loop .inv .5 .long
-
-returns-2 : tie.Need-returns-2 Inv-loop μ-loop
-returns-2 c =
-    let v = c .before .before .before .before .before .before .before .loop .inv in
-    let w = priority-wrong _ _ _ _ _ (v .0) (c .before .before .before .before .before .before .loop-test .taken) _ (c .before .before .before .before .before .read .ensures) (confirmed (c .before .before .before .before .numbers-fit .ensures) (c .before .before .before .if1 .left))
-    _ (c .before .before .wide2 .ensures .0) (refuted (c .before .within .ensures) (c .if2 .taken)) in
-    (w .0, (filling-at _ _ _ _ _ (v .1) _ (w .1), (filling-at _ _ _ _ _ (v .2) _ (w .1), (filling-at _ _ _ _ _ (v .3) _ (w .1), (filling-at _ _ _ _ _ (v .4) _ (w .1), filling-at _ _ _ _ _ (v .5) _ (w .1))))))
+enum-told : tie.Need-enum-told Inv-loop μ-loop
+enum-told c = search needs
 
 slice-write-priorities : tie.Need-slice-write-priorities Inv-loop μ-loop
 slice-write-priorities c = omega (arith, c .before .before .before .before .before .before .before .loop .inv .1 .long, c .before .before .before .before .before .before .before .loop .inv .1 .room, c .before .before .before .before .before .before .loop-test .taken)
@@ -128,8 +82,33 @@ mul-jitters c = omega arith
 slice-write-jitters : tie.Need-slice-write-jitters Inv-loop μ-loop
 slice-write-jitters c = omega (arith, c .before .before .before .before .before .before .before .loop .inv .5 .long, c .before .before .before .before .before .before .before .loop .inv .5 .room, c .before .before .before .before .before .before .loop-test .taken)
 
+enum-known-checked : tie.Need-enum-known-checked Inv-loop μ-loop
+enum-known-checked c = search needs
+
+same-length : tie.Need-same-length Inv-loop μ-loop
+same-length c = c .before .before .before .before .before .before .before .before .loop .inv .1 .long
+
+same-length-2 : tie.Need-same-length-2 Inv-loop μ-loop
+same-length-2 c = c .before .before .before .before .before .before .before .before .loop .inv .2 .long
+
+same-length-3 : tie.Need-same-length-3 Inv-loop μ-loop
+same-length-3 c = c .before .before .before .before .before .before .before .before .loop .inv .3 .long
+
+same-length-4 : tie.Need-same-length-4 Inv-loop μ-loop
+same-length-4 c = c .before .before .before .before .before .before .before .before .loop .inv .4 .long
+
+same-length-5 : tie.Need-same-length-5 Inv-loop μ-loop
+same-length-5 c = c .before .before .before .before .before .before .before .before .loop .inv .5 .long
+
+returns : tie.Need-returns Inv-loop μ-loop
+returns c =
+    let v = c .before .before .before .before .before .before .before .before .loop .inv in
+    let last = c .before .before .before .before .wide .ensures .0 ∙ filled-word _ _ _ _ (v .1 .is) _ (omega (arith, v .0 .some)) in
+    let w = record-wrong _ _ _ _ (v .0) (c .before .before .before .before .before .before .before .loop-test .taken) _ (c .before .before .before .before .before .before .read .ensures .0) _ last _ (c .before .before .before .check .ensures) _ (c .before .checked .given .1) in
+    (w .0, (filling-at _ _ _ _ _ (v .1) _ (w .1), (filling-at _ _ _ _ _ (v .2) _ (w .1), (filling-at _ _ _ _ _ (v .3) _ (w .1), (filling-at _ _ _ _ _ (v .4) _ (w .1), filling-at _ _ _ _ _ (v .5) _ (w .1))))))
+
 add-at-2 : tie.Need-add-at-2 Inv-loop μ-loop
-add-at-2 c = omega (arith, c .before .before .before .before .before .before .before .loop .inv .0 .here, c .before .before .before .before .before .before .before .loop .inv .0 .fits, c .before .before .before .before .before .before .loop-test .taken, c .before .before .before .before .before .before .before .before .before .before .before .before .before .before .before .before .good)
+add-at-2 c = omega (arith, c .before .before .before .before .before .before .before .loop .inv .0 .here, c .before .before .before .before .before .before .before .loop .inv .0 .fits, c .before .before .before .before .before .before .loop-test .taken, c .before .before .before .before .before .before .before .before .before .before .before .before .before .before .good)
 
 add-i : tie.Need-add-i Inv-loop μ-loop
 add-i c = omega arith
@@ -140,10 +119,10 @@ loop-less c = omega arith
 loop-again : tie.Need-loop-again Inv-loop μ-loop
 loop-again c =
     let v = c .before .before .before .before .before .before .before .loop .inv in
-    let t = as-task _ _ (v .0) _ (c .before .before .before .before .before .read .ensures) in
-    let h = c .before .before .before .before .before .before .loop-test .taken in (
-      reading-more _ _ _ _ _ (v .0) h _ (c .before .before .before .before .before .read .ensures) (confirmed (c .before .before .before .before .numbers-fit .ensures) (c .before .before .before .if1 .left))
-          _ (c .before .before .wide2 .ensures .0) (confirmed (c .before .within .ensures) (c .if2 .left)),
+    let h = c .before .before .before .before .before .before .loop-test .taken in
+    let t = as-task _ _ (v .0) _ (c .before .before .before .before .before .read .ensures .0) in
+    let last = c .before .before .before .wide .ensures .0 ∙ filled-word _ _ _ _ (v .1 .is) _ (omega (arith, v .0 .some)) in (
+      reading-more _ _ _ _ (v .0) h _ (c .before .before .before .before .before .read .ensures .0) _ last _ (c .before .before .check .ensures) (c .enum-told .given .1),
       filling-more _ _ _ _ _ _ (v .1) h (ap (λ (t : Task). t .priority) t),
       filling-more _ _ _ _ _ _ (v .2) h (ap (λ (t : Task). t .period) t),
       filling-more _ _ _ _ _ _ (v .3) h (ap (λ (t : Task). t .cost) t),
@@ -151,23 +130,23 @@ loop-again c =
       filling-more _ _ _ _ _ _ (v .5) h (ap (λ (t : Task). t .jitter) t),
     )
 
-same-length-11 : tie.Need-same-length-11 Inv-loop μ-loop
-same-length-11 c = c .before .loop .inv .1 .long
+same-length-6 : tie.Need-same-length-6 Inv-loop μ-loop
+same-length-6 c = c .before .loop .inv .1 .long
 
-same-length-12 : tie.Need-same-length-12 Inv-loop μ-loop
-same-length-12 c = c .before .loop .inv .2 .long
+same-length-7 : tie.Need-same-length-7 Inv-loop μ-loop
+same-length-7 c = c .before .loop .inv .2 .long
 
-same-length-13 : tie.Need-same-length-13 Inv-loop μ-loop
-same-length-13 c = c .before .loop .inv .3 .long
+same-length-8 : tie.Need-same-length-8 Inv-loop μ-loop
+same-length-8 c = c .before .loop .inv .3 .long
 
-same-length-14 : tie.Need-same-length-14 Inv-loop μ-loop
-same-length-14 c = c .before .loop .inv .4 .long
+same-length-9 : tie.Need-same-length-9 Inv-loop μ-loop
+same-length-9 c = c .before .loop .inv .4 .long
 
-same-length-15 : tie.Need-same-length-15 Inv-loop μ-loop
-same-length-15 c = c .before .loop .inv .5 .long
+same-length-10 : tie.Need-same-length-10 Inv-loop μ-loop
+same-length-10 c = c .before .loop .inv .5 .long
 
-returns-3 : tie.Need-returns-3 Inv-loop μ-loop
-returns-3 c =
+returns-2 : tie.Need-returns-2 Inv-loop μ-loop
+returns-2 c =
     let v = c .before .loop .inv in
     let w = reading-all _ _ (v .0) (c .loop-test .left) in
     (w .0, (filling-at _ _ _ _ _ (v .1) _ (w .1), (filling-at _ _ _ _ _ (v .2) _ (w .1), (filling-at _ _ _ _ _ (v .3) _ (w .1), (filling-at _ _ _ _ _ (v .4) _ (w .1), filling-at _ _ _ _ _ (v .5) _ (w .1))))))
@@ -178,27 +157,14 @@ read-rest-spec =
     (tie.spec
     Inv-loop
     μ-loop
-    slice-read-wide
-    wide-requires
     add-at
     loop-holds
     read-requires
-    numbers-fit-requires
-    same-length
-    same-length-2
-    same-length-3
-    same-length-4
-    same-length-5
-    returns
-    wide-requires-2
-    sub-within
-    within-requires
-    same-length-6
-    same-length-7
-    same-length-8
-    same-length-9
-    same-length-10
-    returns-2
+    sub-wide
+    slice-read-wide
+    wide-requires
+    check-requires
+    enum-told
     slice-write-priorities
     mul-periods
     slice-write-periods
@@ -208,13 +174,20 @@ read-rest-spec =
     slice-write-deadlines
     mul-jitters
     slice-write-jitters
+    enum-known-checked
+    same-length
+    same-length-2
+    same-length-3
+    same-length-4
+    same-length-5
+    returns
     add-at-2
     add-i
     loop-less
     loop-again
-    same-length-11
-    same-length-12
-    same-length-13
-    same-length-14
-    same-length-15
-    returns-3)
+    same-length-6
+    same-length-7
+    same-length-8
+    same-length-9
+    same-length-10
+    returns-2)

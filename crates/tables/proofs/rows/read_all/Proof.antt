@@ -1,9 +1,9 @@
--- `tables::rows::read_all` meets its contract: each turn reads one row, by the laws of `RowLaws`, and fills one word of each slice.
+-- `tables::rows::read_all` meets its contract: each turn takes one row, by the laws of `RowLaws`, and fills one word of each slice.
 -- Assumes nothing.
 use Prim.Native.Nat.{_-_}
 use native.Mathlib.Omega.{arith}
 use mathlib.Core.Path.{_≡_, ap}
-use Rattle.model.proofs.Tests.{refuted, confirmed}
+use borrow.Author.Needs.{needs}
 use Rattle.model.specs.Tables.{Row}
 use Rattle.model.proofs.Filling.{Filling, filling-none, filling-more, filling-at}
 use Rattle.tables.specs.Layout.{placeIn, semaphoreIn, longestIn}
@@ -39,45 +39,51 @@ loop-holds c =
 read-requires : tie.Need-read-requires Inv-loop μ-loop
 read-requires c κs = omega (arith, c .before .loop .inv .0 .here, c .before .loop .inv .0 .fits, c .loop-test .taken)
 
-fits-requires : tie.Need-fits-requires Inv-loop μ-loop
-fits-requires c κs = (c .read .ensures .1, c .before .before .loop .inv .0 .costsLong)
+check-requires : tie.Need-check-requires Inv-loop μ-loop
+check-requires c κs =
+    (omega (arith, c .before .before .loop .inv .0 .here, c .before .before .loop .inv .0 .fewTasks, c .before .before .loop .inv .0 .fewRows, c .before .loop-test .taken), (c .read .ensures .1, c .before .before .loop .inv .0 .costsLong))
 
-same-length : tie.Need-same-length Inv-loop μ-loop
-same-length c = c .before .before .before .before .loop .inv .1 .long
-
-same-length-2 : tie.Need-same-length-2 Inv-loop μ-loop
-same-length-2 c = c .before .before .before .before .loop .inv .2 .long
-
-same-length-3 : tie.Need-same-length-3 Inv-loop μ-loop
-same-length-3 c = c .before .before .before .before .loop .inv .3 .long
-
-returns : tie.Need-returns Inv-loop μ-loop
-returns c =
-    let v = c .before .before .before .before .loop .inv in
-    let w = row-wrong _ _ _ _ _ _ _ (v .0) (c .before .before .before .loop-test .taken) _ (c .before .before .read .ensures .0) (c .before .before .read .ensures .1 .1)
-    (refuted (c .before .fits2 .ensures) (c .if1 .taken)) in
-    (w .0, (filling-at _ _ _ _ _ (v .1) _ (w .1), (filling-at _ _ _ _ _ (v .2) _ (w .1), filling-at _ _ _ _ _ (v .3) _ (w .1))))
+enum-told : tie.Need-enum-told Inv-loop μ-loop
+enum-told c = search needs
 
 cast-places : tie.Need-cast-places Inv-loop μ-loop
-cast-places c = omega (arith, c .before .before .before .read .ensures .1)
+cast-places c = omega (arith, c .before .before .before .before .read .ensures .1)
 
 slice-write-places : tie.Need-slice-write-places Inv-loop μ-loop
-slice-write-places c = omega (arith, c .before .before .before .before .before .loop .inv .1 .long, c .before .before .before .before .before .loop .inv .1 .room, c .before .before .before .before .loop-test .taken)
+slice-write-places c = omega (arith, c .before .before .before .before .before .before .loop .inv .1 .long, c .before .before .before .before .before .before .loop .inv .1 .room, c .before .before .before .before .before .loop-test .taken)
 
 slice-write-semaphores : tie.Need-slice-write-semaphores Inv-loop μ-loop
-slice-write-semaphores c = omega (arith, c .before .before .before .before .before .loop .inv .2 .long, c .before .before .before .before .before .loop .inv .2 .room, c .before .before .before .before .loop-test .taken)
+slice-write-semaphores c = omega (arith, c .before .before .before .before .before .before .loop .inv .2 .long, c .before .before .before .before .before .before .loop .inv .2 .room, c .before .before .before .before .before .loop-test .taken)
 
 mul-longest : tie.Need-mul-longest Inv-loop μ-loop
 mul-longest c = omega arith
 
 slice-write-longest : tie.Need-slice-write-longest Inv-loop μ-loop
-slice-write-longest c = omega (arith, c .before .before .before .before .before .loop .inv .3 .long, c .before .before .before .before .before .loop .inv .3 .room, c .before .before .before .before .loop-test .taken)
+slice-write-longest c = omega (arith, c .before .before .before .before .before .before .loop .inv .3 .long, c .before .before .before .before .before .before .loop .inv .3 .room, c .before .before .before .before .before .loop-test .taken)
 
 key-requires : tie.Need-key-requires Inv-loop μ-loop
-key-requires c κs = c .before .before .before .read .ensures .1
+key-requires c κs = c .before .before .before .before .read .ensures .1
+
+enum-known-checked : tie.Need-enum-known-checked Inv-loop μ-loop
+enum-known-checked c = search needs
+
+same-length : tie.Need-same-length Inv-loop μ-loop
+same-length c = c .before .before .before .before .before .before .loop .inv .1 .long
+
+same-length-2 : tie.Need-same-length-2 Inv-loop μ-loop
+same-length-2 c = c .before .before .before .before .before .before .loop .inv .2 .long
+
+same-length-3 : tie.Need-same-length-3 Inv-loop μ-loop
+same-length-3 c = c .before .before .before .before .before .before .loop .inv .3 .long
+
+returns : tie.Need-returns Inv-loop μ-loop
+returns c =
+    let v = c .before .before .before .before .before .before .loop .inv in
+    let w = row-wrong _ _ _ _ _ _ _ (v .0) (c .before .before .before .before .before .loop-test .taken) _ (c .before .before .before .before .read .ensures .0) (c .before .before .before .before .read .ensures .1 .1) _ (c .before .before .before .check .ensures) _ (c .before .checked .given .1) in
+    (w .0, (filling-at _ _ _ _ _ (v .1) _ (w .1), (filling-at _ _ _ _ _ (v .2) _ (w .1), filling-at _ _ _ _ _ (v .3) _ (w .1))))
 
 add-at-2 : tie.Need-add-at-2 Inv-loop μ-loop
-add-at-2 c = omega (arith, c .before .before .before .before .before .before .loop .inv .0 .here, c .before .before .before .before .before .before .loop .inv .0 .fits, c .before .before .before .before .before .loop-test .taken, c .before .before .before .before .before .before .before .before .before .before .before .before .good)
+add-at-2 c = omega (arith, c .before .before .before .before .before .before .before .loop .inv .0 .here, c .before .before .before .before .before .before .before .loop .inv .0 .fits, c .before .before .before .before .before .before .loop-test .taken, c .before .before .before .before .before .before .before .before .before .before .before .before .before .good)
 
 add-k : tie.Need-add-k Inv-loop μ-loop
 add-k c = omega arith
@@ -87,11 +93,10 @@ loop-less c = omega arith
 
 loop-again : tie.Need-loop-again Inv-loop μ-loop
 loop-again c =
-    let v = c .before .before .before .before .before .before .loop .inv in
-    let h = c .before .before .before .before .before .loop-test .taken in
-    let t = as-row _ _ _ _ _ _ _ (v .0) h _ (c .before .before .before .before .read .ensures .0) (c .before .before .before .before .read .ensures .1 .1) in (
-      scanning-more _ _ _ _ _ _ _ (v .0) h _ (c .before .before .before .before .read .ensures .0) (c .before .before .before .before .read .ensures .1 .1)
-          (confirmed (c .before .before .before .fits2 .ensures) (c .before .before .if1 .left)) _ (c .key .ensures),
+    let v = c .before .before .before .before .before .before .before .loop .inv in
+    let h = c .before .before .before .before .before .before .loop-test .taken in
+    let t = as-row _ _ _ _ _ _ _ (v .0) h _ (c .before .before .before .before .before .read .ensures .0) (c .before .before .before .before .before .read .ensures .1 .1) in (
+      scanning-more _ _ _ _ _ _ _ (v .0) h _ (c .before .before .before .before .before .read .ensures .0) (c .before .before .before .before .before .read .ensures .1 .1) _ (c .before .before .before .before .check .ensures) (c .before .before .enum-told .given .1) _ (c .key .ensures),
       filling-more _ _ _ _ _ _ (v .1) h (ap (λ (r : Row). r .place) t),
       filling-more _ _ _ _ _ _ (v .2) h (ap (λ (r : Row). r .semaphore) t),
       filling-more _ _ _ _ _ _ (v .3) h (ap (λ (r : Row). r .longest) t),
@@ -122,17 +127,19 @@ read-all-spec =
     add-at
     loop-holds
     read-requires
-    fits-requires
-    same-length
-    same-length-2
-    same-length-3
-    returns
+    check-requires
+    enum-told
     cast-places
     slice-write-places
     slice-write-semaphores
     mul-longest
     slice-write-longest
     key-requires
+    enum-known-checked
+    same-length
+    same-length-2
+    same-length-3
+    returns
     add-at-2
     add-k
     loop-less

@@ -1,0 +1,64 @@
+-- Which refusal a broken rule deserves, and the place that it names (document 01, "Refusals", as document 02, L3, amends its places).
+-- Assumes nothing.
+use Prim.Native.Nat.{ℕ, _<_}
+use mathlib.Core.Path.{_≡_}
+use mathlib.Core.List.{List, [], _∷_, _++_}
+use Rattle.tables.specs.declared.Refusal.{Refusal}
+use Rattle.tables.specs.declared.Refusal.the-variants.{TooShort, UnknownVersion, CountOutOfRange, LengthsDiffer, NumberOutOfRange, PriorityOutOfOrder, SectionRow, NoRoom, NotPlayable}
+use Rattle.tables.specs.Layout.{taskCount, rowCount, recordStart, rowStart}
+use Rattle.tables.specs.Fields.{CountField, countOrder, countRefusal, RecordField, recordOrder, recordRefusal, RowField, rowOrder, rowRefusal}
+use Rattle.tables.specs.Meaning.{LongEnough, VersionKnown, CountRight, CountsRight, LengthsEqual, RecordFieldRight, RowFieldRight, RoomFor, HeadRight, RecordsRight, RowsRight, TableRight}
+
+-- every field of a list keeps its rule
+abbrev pub Each : {F : Type 0} → (F → Type 0) → List F → Type 0
+Each Right [] = Unit
+Each Right (field ∷ fields) = Right field × Each Right fields
+
+-- "the first faulty field": it breaks its rule, and every field tested before it keeps its own
+pub record FirstBroken {F : Type 0} (Right : F → Type 0) (order : List F) (field : F) : Type 0 where
+  pub before : List F
+  pub after : List F
+  pub stands : order ≡ before ++ (field ∷ after)
+  pub kept : Each Right before
+  pub broken : ¬ Right field
+
+-- the refusal is that of the first count at fault
+pub record CountFault (bytes : List ℕ) (refusal : Refusal) : Type 0 where
+  pub field : CountField
+  pub first : FirstBroken (CountRight bytes) countOrder field
+  pub given : refusal ≡ countRefusal field
+
+-- the refusal is that of the first field at fault, in the first record at fault
+pub record RecordFault (bytes : List ℕ) (refusal : Refusal) : Type 0 where
+  pub i : ℕ
+  pub field : RecordField
+  pub inside : i < taskCount bytes
+  pub earlier : RecordsRight bytes i
+  pub first : FirstBroken (RecordFieldRight bytes i) recordOrder field
+  pub given : refusal ≡ recordRefusal (recordStart i) field
+
+-- the refusal is that of the first field at fault, in the first row at fault
+pub record RowFault (bytes : List ℕ) (refusal : Refusal) : Type 0 where
+  pub k : ℕ
+  pub field : RowField
+  pub inside : k < rowCount bytes
+  pub earlier : RowsRight bytes k
+  pub first : FirstBroken (RowFieldRight bytes k) rowOrder field
+  pub given : refusal ≡ rowRefusal (rowStart (taskCount bytes) k) field
+
+-- When a refusal is deserved: its rule is broken, at its place, and every check before it passes. For 3, 5, 6 and 7 the place is the
+-- first byte of the first field, in the order tested, that breaks its rule.
+abbrev pub Deserved : List ℕ → ℕ → ℕ → Refusal → Type 0
+Deserved bytes answers rounds TooShort = ¬ LongEnough bytes
+Deserved bytes answers rounds UnknownVersion = LongEnough bytes × (¬ VersionKnown bytes)
+Deserved bytes answers rounds (CountOutOfRange place) =
+    LongEnough bytes × VersionKnown bytes × CountFault bytes (CountOutOfRange place)
+Deserved bytes answers rounds LengthsDiffer =
+    LongEnough bytes × VersionKnown bytes × CountsRight bytes × (¬ LengthsEqual bytes)
+Deserved bytes answers rounds (NumberOutOfRange place) = HeadRight bytes × RecordFault bytes (NumberOutOfRange place)
+Deserved bytes answers rounds (PriorityOutOfOrder place) = HeadRight bytes × RecordFault bytes (PriorityOutOfOrder place)
+Deserved bytes answers rounds (SectionRow place) =
+    HeadRight bytes × RecordsRight bytes (taskCount bytes) × RowFault bytes (SectionRow place)
+Deserved bytes answers rounds NoRoom = TableRight bytes × (¬ RoomFor bytes answers rounds)
+-- no rule of document 01: the analysis never gives it
+Deserved bytes answers rounds NotPlayable = ⊥
