@@ -1,13 +1,12 @@
 -- How far on the place of a verdict can be.
 -- Assumes nothing.
-use Prim.Native.Nat.{ℕ, _+_, _*_, _≤_, _<_}
+use Prim.Native.Nat.{ℕ, _≤_, _<_}
 use native.Mathlib.Omega.{arith}
-use mathlib.Core.Path.{_≡_, refl, sym, _∙_, ap, subst}
-use mathlib.Core.Bool.{Bool, true, false}
+use mathlib.Core.Path.{_≡_, refl}
+use mathlib.Core.Bool.{true, false}
 use mathlib.Core.List.{List}
-use mathlib.Core.Logic.{_⊎_, inl, inr}
+use mathlib.Core.Logic.{inl, inr}
 use lib.Dec.{eqb}
-use Rattle.model.specs.Search.{firstOf}
 use Rattle.model.proofs.Tests.{bool?, clash}
 use Rattle.model.proofs.First as first-laws
 use Rattle.tables.specs.declared.Check.{Check}

@@ -1,8 +1,8 @@
 -- What each stage has in its slices, and what the next one asks.
 -- Assumes nothing.
-use Prim.Native.Nat.{ℕ, _+_, _*_, _≤_, _<_}
+use Prim.Native.Nat.{ℕ, _≤_, _<_}
 use native.Mathlib.Omega.{arith}
-use mathlib.Core.Path.{_≡_, refl, sym, _∙_, ap}
+use mathlib.Core.Path.{_≡_, sym, _∙_, ap}
 use mathlib.Core.Bool.{true}
 use mathlib.Core.List.{List}
 use lib.Dec.{leb}
@@ -19,7 +19,7 @@ use Rattle.tables.specs.declared.records.TaskRecord.{TaskRecord}
 use Rattle.tables.specs.declared.Check.{Check}
 use Rattle.tables.specs.declared.Check.the-variants.{Clean, Refused}
 use Rattle.tables.specs.Fields.{taskCountField, rowCountField}
-use Rattle.tables.specs.Layout.{taskCount, rowCount, recordStart, rowStart, taskAt, priorityIn, periodIn, costIn, deadlineIn, jitterIn, placeIn, semaphoreIn, longestIn}
+use Rattle.tables.specs.Layout.{taskCount, rowCount, recordStart, taskAt, priorityIn, periodIn, costIn, deadlineIn, jitterIn, placeIn, semaphoreIn, longestIn}
 use Rattle.tables.specs.Checks.{headCheck, recordCheck, recordsCheck, rowCheck, rowsCheck, recordsRead, rowsRead}
 use Rattle.tables.specs.Reading.{RecordsFit, RowsFit, taskFrom, recordFault}
 use Rattle.tables.specs.Meaning.{HeadRight}

@@ -26,7 +26,8 @@ use Rattle.response.specs.Outcome.{Outcome}
 pub record Demand1 : Type 0 where
   pub answered : (bytes answers rounds : List ℕ) →
       (verdict : Verdict) × (answersLeft : List ℕ) × (roundsLeft : List ℕ) × Outcome bytes answers rounds verdict answersLeft roundsLeft
-  -- "the first that applies is given, and it is given only when it applies"; "A refusal .. changes no word."
+  -- "the first that applies is given, and it is given only when it applies", at "the byte offset of the first faulty field" (document
+  -- 02, L3): `Deserved` says which; "A refusal .. changes no word."
   pub refused : (bytes answers rounds answersLeft roundsLeft : List ℕ) (refusal : Refusal) →
       Outcome bytes answers rounds (Refused refusal) answersLeft roundsLeft →
       Deserved bytes (length answers) (length rounds) refusal × (answersLeft ≡ answers) × (roundsLeft ≡ rounds)

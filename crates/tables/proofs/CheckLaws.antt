@@ -1,30 +1,26 @@
 -- A refusal is given only where it is deserved, and a table that breaks no rule is clean.
 -- Assumes nothing.
-use Prim.Native.Nat.{ℕ, _≤_, _<_}
-use native.Mathlib.Omega.{arith}
+use Prim.Native.Nat.{ℕ}
 use mathlib.Core.Path.{_≡_, refl, sym, _∙_, ap, subst}
-use mathlib.Core.Bool.{Bool, true, false}
 use mathlib.Core.List.{List}
-use mathlib.Core.Logic.{_⊎_, inl, inr}
+use mathlib.Core.Logic.{inl, inr}
 use lib.Dec.{eqb, leb}
 use lib.ListN.{length}
 use borrow.Author.Tests.{eqb-true, eq-eqb, leb-true, le-leb}
 use Rattle.model.specs.Choice.{both}
-use Rattle.model.specs.Search.{firstOf}
-use Rattle.model.proofs.Tests.{bool?, clash}
 use Rattle.model.proofs.First as first-laws
 use Rattle.tables.specs.declared.Refusal.{Refusal}
 use Rattle.tables.specs.declared.Refusal.the-variants.{TooShort, UnknownVersion, CountOutOfRange, LengthsDiffer, NumberOutOfRange, PriorityOutOfOrder, SectionRow, NoRoom, NotPlayable}
-use Rattle.tables.specs.declared.Check.{Check}
 use Rattle.tables.specs.declared.Check.the-variants.{Clean, Refused}
-use Rattle.tables.specs.Layout.{versionOf, taskCount, rowCount, recordStart, rowStart, taskAt}
-use Rattle.tables.specs.Refusals.{isClean, unless, orElse, firstIn}
-use Rattle.tables.specs.Fields.{CountField, taskCountField, rowCountField, countOrder, countRefusal, RecordField, periodField, costField, deadlineField, jitterField, priorityField, recordOrder, recordRefusal, RowField, placeField, semaphoreField, longestField, orderField, rowOrder, rowRefusal}
-use Rattle.tables.specs.Rules.{countTest, lengthsAgree, priorityFits, recordTest}
-use Rattle.tables.specs.Checks.{countsCheck, recordCheck, rowTests, rowCheck, headCheck, recordsCheck, rowsCheck, roomCheck, tableCheck, recordsRead, rowsRead}
-use Rattle.tables.specs.Meaning.{LongEnough, VersionKnown, CountRight, CountsRight, RecordFieldRight, RecordRight, RowFieldRight, RowRight, RoomFor, HeadRight, RecordsRight, RowsRight, TableRight}
-use Rattle.tables.specs.Deserved.{Each, FirstBroken, CountFault, RecordFault, RowFault, Deserved}
-use Rattle.tables.proofs.FieldLaws.{clean-only, never-refused, unless-clean, unless-refused, unless-pass, unless-fails, first-clean, both-clean, first-refused, then-refused, stop-refused, broken, fails, each-of, fields-right, fields-clean, fields-refused, broken-refused}
+use Rattle.tables.specs.Layout.{versionOf, taskCount, rowCount}
+use Rattle.tables.specs.Refusals.{isClean, unless, firstIn}
+use Rattle.tables.specs.Fields.{CountField, taskCountField, rowCountField, countOrder, countRefusal, RecordField, periodField, costField, deadlineField, jitterField, priorityField, recordOrder, RowField, placeField, semaphoreField, longestField, orderField, rowOrder}
+use Rattle.tables.specs.Rules.{lengthsAgree}
+use Rattle.tables.specs.Checks.{countsCheck, recordCheck, rowCheck, headCheck, recordsCheck, rowsCheck, roomCheck, tableCheck, recordsRead, rowsRead}
+use Rattle.tables.specs.Meaning.{LongEnough, VersionKnown, CountRight, CountsRight, RecordFieldRight, RowFieldRight, RoomFor, HeadRight, RecordsRight, RowsRight, TableRight}
+use Rattle.tables.specs.Deserved.{Each, CountFault, recordRefusals, RecordFault, rowRefusals, RowFault, Deserved}
+use Rattle.tables.proofs.FaultLaws.{all-right, all-clean, fault-found, fault-refused}
+use Rattle.tables.proofs.FieldLaws.{never-refused, unless-clean, unless-refused, unless-pass, unless-fails, first-clean, both-clean, first-refused, then-refused, stop-refused, broken, fails, each-of, fields-right, fields-clean, fields-refused, broken-refused}
 use Rattle.tables.proofs.MeaningLaws as meaning
 
 module _ (bytes : List ℕ) where
@@ -54,40 +50,18 @@ module _ (bytes : List ℕ) where
       broken-refused (CountRight bytes) _ _ (meaning.count-means bytes) (meaning.count-holds bytes) countOrder (f .field) (f .first)
       ∙ ap Refused (sym (f .given))
 
-  pub record-right : (i : ℕ) → recordCheck bytes i ≡ Clean → RecordRight bytes i
-  unfolding recordCheck
-  record-right i e field =
-      go field (fields-right (RecordFieldRight bytes i) _ _ (meaning.record-means bytes i) (meaning.record-holds bytes i) recordOrder e)
-    where
-      go : (field : RecordField) → Each (RecordFieldRight bytes i) recordOrder → RecordFieldRight bytes i field
-      go periodField each = each .0
-      go costField each = each .1 .0
-      go deadlineField each = each .1 .1 .0
-      go jitterField each = each .1 .1 .1 .0
-      go priorityField each = each .1 .1 .1 .1 .0
+  record-every : (i : ℕ) → Each (RecordFieldRight bytes i) recordOrder → (field : RecordField) → RecordFieldRight bytes i field
+  record-every i each periodField = each .0
+  record-every i each costField = each .1 .0
+  record-every i each deadlineField = each .1 .1 .0
+  record-every i each jitterField = each .1 .1 .1 .0
+  record-every i each priorityField = each .1 .1 .1 .1 .0
 
-  record-clean : (i : ℕ) → RecordRight bytes i → recordCheck bytes i ≡ Clean
-  unfolding recordCheck
-  record-clean i right =
-      fields-clean (RecordFieldRight bytes i) _ _ (meaning.record-means bytes i) (meaning.record-holds bytes i) recordOrder
-      (each-of (RecordFieldRight bytes i) right recordOrder)
-
-  row-right : (k : ℕ) → rowCheck bytes k ≡ Clean → RowRight bytes k
-  unfolding rowCheck
-  row-right k e field =
-      go field (fields-right (RowFieldRight bytes k) _ _ (meaning.row-means bytes k) (meaning.row-holds bytes k) rowOrder e)
-    where
-      go : (field : RowField) → Each (RowFieldRight bytes k) rowOrder → RowFieldRight bytes k field
-      go placeField each = each .0
-      go semaphoreField each = each .1 .0
-      go longestField each = each .1 .1 .0
-      go orderField each = each .1 .1 .1 .0
-
-  row-clean : (k : ℕ) → RowRight bytes k → rowCheck bytes k ≡ Clean
-  unfolding rowCheck
-  row-clean k right =
-      fields-clean (RowFieldRight bytes k) _ _ (meaning.row-means bytes k) (meaning.row-holds bytes k) rowOrder
-      (each-of (RowFieldRight bytes k) right rowOrder)
+  row-every : (k : ℕ) → Each (RowFieldRight bytes k) rowOrder → (field : RowField) → RowFieldRight bytes k field
+  row-every k each placeField = each .0
+  row-every k each semaphoreField = each .1 .0
+  row-every k each longestField = each .1 .1 .0
+  row-every k each orderField = each .1 .1 .1 .0
 
   pub head-right : headCheck bytes ≡ Clean → HeadRight bytes
   unfolding headCheck firstIn
@@ -112,25 +86,44 @@ module _ (bytes : List ℕ) where
       (both-clean _ _ (unless-pass (lengthsAgree bytes) _ (meaning.lengths-hold bytes (h .lengths))) refl)))
 
   pub records-right : recordsCheck bytes ≡ Clean → RecordsRight bytes (taskCount bytes)
-  unfolding recordsCheck
-  records-right e j h =
-      record-right j (first-laws.all-clean isClean Clean refl (recordCheck bytes) clean-only (taskCount bytes) e j h)
+  unfolding recordsCheck recordCheck
+  records-right e =
+      all-right (RecordFieldRight bytes) _ recordRefusals recordOrder (meaning.record-means bytes) (meaning.record-holds bytes) record-every (taskCount bytes) e
 
   records-clean : RecordsRight bytes (taskCount bytes) → recordsCheck bytes ≡ Clean
-  unfolding recordsCheck
-  records-clean r =
-      first-laws.none-found isClean Clean refl (recordCheck bytes) clean-only (taskCount bytes)
-      (λ j h. record-clean j (r j h))
+  unfolding recordsCheck recordCheck
+  records-clean right =
+      all-clean (RecordFieldRight bytes) _ recordRefusals recordOrder (meaning.record-means bytes) (meaning.record-holds bytes) record-every (taskCount bytes) right
+
+  records-refused : (r : Refusal) → recordsCheck bytes ≡ Refused r → RecordFault bytes r
+  unfolding recordsCheck recordCheck
+  records-refused r e =
+      fault-found (RecordFieldRight bytes) _ recordRefusals recordOrder (meaning.record-means bytes) (meaning.record-holds bytes) record-every (taskCount bytes) r e
+
+  records-give : (r : Refusal) → RecordFault bytes r → recordsCheck bytes ≡ Refused r
+  unfolding recordsCheck recordCheck
+  records-give r f =
+      fault-refused (RecordFieldRight bytes) _ recordRefusals recordOrder (meaning.record-means bytes) (meaning.record-holds bytes) record-every (taskCount bytes) r f
 
   pub rows-right : rowsCheck bytes ≡ Clean → RowsRight bytes (rowCount bytes)
-  unfolding rowsCheck
-  rows-right e j h =
-      row-right j (first-laws.all-clean isClean Clean refl (rowCheck bytes) clean-only (rowCount bytes) e j h)
+  unfolding rowsCheck rowCheck
+  rows-right e =
+      all-right (RowFieldRight bytes) _ (rowRefusals bytes) rowOrder (meaning.row-means bytes) (meaning.row-holds bytes) row-every (rowCount bytes) e
 
   rows-clean : RowsRight bytes (rowCount bytes) → rowsCheck bytes ≡ Clean
-  unfolding rowsCheck
-  rows-clean r =
-      first-laws.none-found isClean Clean refl (rowCheck bytes) clean-only (rowCount bytes) (λ j h. row-clean j (r j h))
+  unfolding rowsCheck rowCheck
+  rows-clean right =
+      all-clean (RowFieldRight bytes) _ (rowRefusals bytes) rowOrder (meaning.row-means bytes) (meaning.row-holds bytes) row-every (rowCount bytes) right
+
+  rows-refused : (r : Refusal) → rowsCheck bytes ≡ Refused r → RowFault bytes r
+  unfolding rowsCheck rowCheck
+  rows-refused r e =
+      fault-found (RowFieldRight bytes) _ (rowRefusals bytes) rowOrder (meaning.row-means bytes) (meaning.row-holds bytes) row-every (rowCount bytes) r e
+
+  rows-give : (r : Refusal) → RowFault bytes r → rowsCheck bytes ≡ Refused r
+  unfolding rowsCheck rowCheck
+  rows-give r f =
+      fault-refused (RowFieldRight bytes) _ (rowRefusals bytes) rowOrder (meaning.row-means bytes) (meaning.row-holds bytes) row-every (rowCount bytes) r f
 
   -- where no record, or no row, is at fault, all are read
   pub records-all : recordsCheck bytes ≡ Clean → recordsRead bytes ≡ taskCount bytes
@@ -167,21 +160,16 @@ module _ (bytes : List ℕ) where
 
     -- a refusal that is a field's is one of 3, of 5 and 6, or of 7
     count-deserved : (r : Refusal) → LongEnough bytes → VersionKnown bytes → CountFault bytes r → Deserved bytes answers rounds r
-    count-deserved r long version f = subst (Deserved bytes answers rounds) (sym (f .given)) (go (f .field) (f .first))
+    count-deserved r long version f = subst (Deserved bytes answers rounds) (sym (f .given)) (go (f .field) (subst (CountFault bytes) (f .given) f))
       where
-        go : (field : CountField) → FirstBroken (CountRight bytes) countOrder field → Deserved bytes answers rounds (countRefusal field)
-        go taskCountField first = (long, version, record { field = taskCountField; first = first; given = refl })
-        go rowCountField first = (long, version, record { field = rowCountField; first = first; given = refl })
+        go : (field : CountField) → CountFault bytes (countRefusal field) → Deserved bytes answers rounds (countRefusal field)
+        go taskCountField own = (long, version, own)
+        go rowCountField own = (long, version, own)
 
     record-deserved : (r : Refusal) → HeadRight bytes → RecordFault bytes r → Deserved bytes answers rounds r
-    record-deserved r head f = subst (Deserved bytes answers rounds) (sym (f .given)) (go (f .field) (fault (f .field) (f .first)))
+    record-deserved r head f = subst (Deserved bytes answers rounds) (sym (f .given)) (go (f .field) (subst (RecordFault bytes) (f .given) f))
       where
-        fault : (field : RecordField) → FirstBroken (RecordFieldRight bytes (f .i)) recordOrder field →
-            RecordFault bytes (recordRefusal (recordStart (f .i)) field)
-        fault field first = record { i = f .i; field = field; inside = f .inside; earlier = f .earlier; first = first; given = refl }
-
-        go : (field : RecordField) → RecordFault bytes (recordRefusal (recordStart (f .i)) field) →
-            Deserved bytes answers rounds (recordRefusal (recordStart (f .i)) field)
+        go : (field : RecordField) → RecordFault bytes (recordRefusals (f .i) field) → Deserved bytes answers rounds (recordRefusals (f .i) field)
         go periodField own = (head, own)
         go costField own = (head, own)
         go deadlineField own = (head, own)
@@ -189,15 +177,9 @@ module _ (bytes : List ℕ) where
         go priorityField own = (head, own)
 
     row-deserved : (r : Refusal) → HeadRight bytes → RecordsRight bytes (taskCount bytes) → RowFault bytes r → Deserved bytes answers rounds r
-    row-deserved r head records f = subst (Deserved bytes answers rounds) (sym (f .given)) (go (f .field) (fault (f .field) (f .first)))
+    row-deserved r head records f = subst (Deserved bytes answers rounds) (sym (f .given)) (go (f .field) (subst (RowFault bytes) (f .given) f))
       where
-        start : ℕ
-        start = rowStart (taskCount bytes) (f .k)
-
-        fault : (field : RowField) → FirstBroken (RowFieldRight bytes (f .k)) rowOrder field → RowFault bytes (rowRefusal start field)
-        fault field first = record { k = f .k; field = field; inside = f .inside; earlier = f .earlier; first = first; given = refl }
-
-        go : (field : RowField) → RowFault bytes (rowRefusal start field) → Deserved bytes answers rounds (rowRefusal start field)
+        go : (field : RowField) → RowFault bytes (rowRefusals bytes (f .i) field) → Deserved bytes answers rounds (rowRefusals bytes (f .i) field)
         go placeField own = (head, records, own)
         go semaphoreField own = (head, records, own)
         go longestField own = (head, records, own)
@@ -232,25 +214,6 @@ module _ (bytes : List ℕ) where
               ]
         ]
 
-    records-deserved : HeadRight bytes → (r : Refusal) → recordsCheck bytes ≡ Refused r → Deserved bytes answers rounds r
-    unfolding recordsCheck recordCheck
-    records-deserved head r e =
-        let g = first-laws.first-found isClean Clean refl (recordCheck bytes) clean-only (taskCount bytes) (ap isClean e) in
-        let i = g .0 in
-        let f = fields-refused (RecordFieldRight bytes i) _ _ (meaning.record-means bytes i) (meaning.record-holds bytes i) recordOrder r (sym (g .2) ∙ e) in
-        record-deserved r head
-        record { i = i; field = f .0; inside = g .1; earlier = λ j h. record-right j (g .3 j h); first = f .1; given = f .2 }
-
-    rows-deserved : HeadRight bytes → RecordsRight bytes (taskCount bytes) → (r : Refusal) → rowsCheck bytes ≡ Refused r →
-        Deserved bytes answers rounds r
-    unfolding rowsCheck rowCheck
-    rows-deserved head records r e =
-        let g = first-laws.first-found isClean Clean refl (rowCheck bytes) clean-only (rowCount bytes) (ap isClean e) in
-        let k = g .0 in
-        let f = fields-refused (RowFieldRight bytes k) _ _ (meaning.row-means bytes k) (meaning.row-holds bytes k) rowOrder r (sym (g .2) ∙ e) in
-        row-deserved r head records
-        record { k = k; field = f .0; inside = g .1; earlier = λ j h. row-right j (g .3 j h); first = f .1; given = f .2 }
-
     -- a refusal is given only where it is deserved
     pub table-deserved : (r : Refusal) → tableCheck bytes answers rounds ≡ Refused r → Deserved bytes answers rounds r
     unfolding tableCheck firstIn roomCheck
@@ -260,11 +223,11 @@ module _ (bytes : List ℕ) where
           | inr p ↦
               let head = head-right (p .0) in
               elim (first-refused (recordsCheck bytes) _ (p .1)) [
-                | inl q ↦ records-deserved head r q
+                | inl q ↦ record-deserved r head (records-refused r q)
                 | inr q ↦
                     let records = records-right (q .0) in
                     elim (first-refused (rowsCheck bytes) _ (q .1)) [
-                      | inl s ↦ rows-deserved head records r s
+                      | inl s ↦ row-deserved r head records (rows-refused r s)
                       | inr s ↦
                           elim (first-refused (roomCheck bytes answers rounds) Clean (s .1)) [
                             | inl t ↦
@@ -299,26 +262,6 @@ module _ (bytes : List ℕ) where
     from-rows r head records p =
         then-refused (headCheck bytes) _ r (head-clean head)
         (then-refused (recordsCheck bytes) _ r (records-clean records) (stop-refused (rowsCheck bytes) _ r p))
-
-    records-give : (r : Refusal) → RecordFault bytes r → recordsCheck bytes ≡ Refused r
-    unfolding recordsCheck recordCheck
-    records-give r f =
-        let e = broken-refused (RecordFieldRight bytes (f .i)) _ _ (meaning.record-means bytes (f .i)) (meaning.record-holds bytes (f .i)) recordOrder (f .field) (f .first) in
-        first-laws.first-stop isClean Clean refl (recordCheck bytes) (f .i)
-        (first-laws.none-found isClean Clean refl (recordCheck bytes) clean-only (f .i) (λ j h. record-clean j (f .earlier j h)))
-        (ap isClean e) (taskCount bytes) (f .inside)
-        ∙ e
-        ∙ ap Refused (sym (f .given))
-
-    rows-give : (r : Refusal) → RowFault bytes r → rowsCheck bytes ≡ Refused r
-    unfolding rowsCheck rowCheck
-    rows-give r f =
-        let e = broken-refused (RowFieldRight bytes (f .k)) _ _ (meaning.row-means bytes (f .k)) (meaning.row-holds bytes (f .k)) rowOrder (f .field) (f .first) in
-        first-laws.first-stop isClean Clean refl (rowCheck bytes) (f .k)
-        (first-laws.none-found isClean Clean refl (rowCheck bytes) clean-only (f .k) (λ j h. row-clean j (f .earlier j h)))
-        (ap isClean e) (rowCount bytes) (f .inside)
-        ∙ e
-        ∙ ap Refused (sym (f .given))
 
     -- a refusal that is deserved is given
     pub table-gives : (r : Refusal) → Deserved bytes answers rounds r → tableCheck bytes answers rounds ≡ Refused r

@@ -1,4 +1,5 @@
 pub mod FieldLaws
+pub mod FaultLaws
 pub mod MeaningLaws
 pub mod CheckLaws
 pub mod OrderLaws

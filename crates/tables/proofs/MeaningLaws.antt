@@ -1,19 +1,19 @@
 -- Each test of the rules passes exactly where the rule holds.
 -- Assumes nothing.
-use Prim.Native.Nat.{ℕ, zero, suc, _+_, _-_, _≤_, _<_}
+use Prim.Native.Nat.{ℕ, zero, suc, _-_, _<_}
 use native.Mathlib.Omega.{arith}
 use native.Mathlib.Decide.{ℕ-discrete}
-use mathlib.Core.Path.{_≡_, refl, sym, _∙_, ap, subst}
-use mathlib.Core.Bool.{Bool, true, false}
+use mathlib.Core.Path.{_≡_, refl, subst}
+use mathlib.Core.Bool.{true}
 use mathlib.Core.List.{List}
-use mathlib.Core.Logic.{_⊎_, inl, inr}
+use mathlib.Core.Logic.{inl, inr}
 use lib.Dec.{eqb, leb, ltb}
 use lib.ListN.{length}
-use borrow.Author.Tests.{eqb-true, eq-eqb, ne-eqb, ltb-true, lt-ltb, leb-true, le-leb, le-ltb}
+use borrow.Author.Tests.{eqb-true, eq-eqb, ne-eqb, ltb-true, lt-ltb, leb-true, le-leb}
 use Rattle.model.specs.Choice.{both, either}
-use Rattle.model.specs.Tables.{Task, Row}
-use Rattle.model.proofs.Tests.{ltb?, both-true, both-pass, either-right, either-true, clash}
-use Rattle.tables.specs.Layout.{statedLength, taskCount, rowCount, lengthFor, taskAt, rowAt, priorityIn, periodIn, costIn, deadlineIn, jitterIn, placeIn, semaphoreIn, longestIn}
+use Rattle.model.specs.Tables.{Row}
+use Rattle.model.proofs.Tests.{ltb?, both-true, both-pass, either-right, either-true}
+use Rattle.tables.specs.Layout.{statedLength, taskCount, rowCount, taskAt, rowAt, priorityIn, periodIn, costIn, deadlineIn, jitterIn, placeIn, semaphoreIn, longestIn}
 use Rattle.tables.specs.Fields.{CountField, taskCountField, rowCountField, RecordField, periodField, costField, deadlineField, jitterField, priorityField, RowField, placeField, semaphoreField, longestField, orderField}
 use Rattle.tables.specs.Rules.{between, countTest, lengthsAgree, priorityFits, recordTest, rowAfter, rowInOrder, rowTest}
 use Rattle.tables.specs.Checks.{rowTests}

@@ -48,7 +48,7 @@ refusal-place bytes answers rounds (SectionRow place) d =
     omega (
       arith,
       ap placeOf (f .given),
-      row-place (rowStart (taskCount bytes) (f .k)) (f .field),
+      row-place (rowStart (taskCount bytes) (f .i)) (f .field),
       f .inside,
       counts taskCountField .high,
       counts rowCountField .high,

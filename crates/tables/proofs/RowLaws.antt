@@ -7,14 +7,14 @@ use native.Mathlib.Decide.{ℕ-discrete}
 use mathlib.Core.Path.{_≡_, refl, sym, _∙_, ap, subst}
 use mathlib.Core.Bool.{Bool, true, false}
 use mathlib.Core.List.{List}
-use mathlib.Core.Logic.{_⊎_, inl, inr}
-use lib.Dec.{eqb, leb, ltb}
+use mathlib.Core.Logic.{inl, inr}
+use lib.Dec.{eqb, ltb}
 use lib.ListN.{length, getD}
-use borrow.Author.Tests.{ne-eqb, eq-eqb, lt-ltb, le-ltb, leb-true, ltb-true}
-use Rattle.model.specs.Choice.{both, either}
+use borrow.Author.Tests.{ne-eqb, eq-eqb, lt-ltb, le-ltb, ltb-true}
+use Rattle.model.specs.Choice.{either}
 use Rattle.model.specs.Tables.{Row}
 use Rattle.model.specs.Search.{firstOf}
-use Rattle.model.proofs.Tests.{ltb?, leb?, bool?, clash}
+use Rattle.model.proofs.Tests.{ltb?, leb?, clash}
 use Rattle.model.proofs.First as first-laws
 use Rattle.tables.specs.declared.Check.{Check}
 use Rattle.tables.specs.declared.Check.the-variants.{Clean, Refused}

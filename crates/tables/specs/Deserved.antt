@@ -7,7 +7,7 @@ use Rattle.tables.specs.declared.Refusal.{Refusal}
 use Rattle.tables.specs.declared.Refusal.the-variants.{TooShort, UnknownVersion, CountOutOfRange, LengthsDiffer, NumberOutOfRange, PriorityOutOfOrder, SectionRow, NoRoom, NotPlayable}
 use Rattle.tables.specs.Layout.{taskCount, rowCount, recordStart, rowStart}
 use Rattle.tables.specs.Fields.{CountField, countOrder, countRefusal, RecordField, recordOrder, recordRefusal, RowField, rowOrder, rowRefusal}
-use Rattle.tables.specs.Meaning.{LongEnough, VersionKnown, CountRight, CountsRight, LengthsEqual, RecordFieldRight, RowFieldRight, RoomFor, HeadRight, RecordsRight, RowsRight, TableRight}
+use Rattle.tables.specs.Meaning.{LongEnough, VersionKnown, CountRight, CountsRight, LengthsEqual, RecordFieldRight, RowFieldRight, RoomFor, HeadRight, RecordsRight, TableRight}
 
 -- every field of a list keeps its rule
 abbrev pub Each : {F : Type 0} → (F → Type 0) → List F → Type 0
@@ -28,23 +28,27 @@ pub record CountFault (bytes : List ℕ) (refusal : Refusal) : Type 0 where
   pub first : FirstBroken (CountRight bytes) countOrder field
   pub given : refusal ≡ countRefusal field
 
--- the refusal is that of the first field at fault, in the first record at fault
-pub record RecordFault (bytes : List ℕ) (refusal : Refusal) : Type 0 where
+-- Among `count` records or rows, each with the same fields: the refusal is that of the first field at fault in the first one at fault.
+pub record Fault {F : Type 0} (Right : ℕ → F → Type 0) (order : List F) (refusalOf : ℕ → F → Refusal) (count : ℕ) (refusal : Refusal) : Type 0 where
   pub i : ℕ
-  pub field : RecordField
-  pub inside : i < taskCount bytes
-  pub earlier : RecordsRight bytes i
-  pub first : FirstBroken (RecordFieldRight bytes i) recordOrder field
-  pub given : refusal ≡ recordRefusal (recordStart i) field
+  pub field : F
+  pub inside : i < count
+  pub earlier : (j : ℕ) → j < i → (other : F) → Right j other
+  pub first : FirstBroken (Right i) order field
+  pub given : refusal ≡ refusalOf i field
 
--- the refusal is that of the first field at fault, in the first row at fault
-pub record RowFault (bytes : List ℕ) (refusal : Refusal) : Type 0 where
-  pub k : ℕ
-  pub field : RowField
-  pub inside : k < rowCount bytes
-  pub earlier : RowsRight bytes k
-  pub first : FirstBroken (RowFieldRight bytes k) rowOrder field
-  pub given : refusal ≡ rowRefusal (rowStart (taskCount bytes) k) field
+-- the refusal of a field of record i, and of row k
+abbrev pub recordRefusals : ℕ → RecordField → Refusal
+recordRefusals i = recordRefusal (recordStart i)
+
+abbrev pub rowRefusals : List ℕ → ℕ → RowField → Refusal
+rowRefusals bytes k = rowRefusal (rowStart (taskCount bytes) k)
+
+abbrev pub RecordFault : List ℕ → Refusal → Type 0
+RecordFault bytes refusal = Fault (RecordFieldRight bytes) recordOrder recordRefusals (taskCount bytes) refusal
+
+abbrev pub RowFault : List ℕ → Refusal → Type 0
+RowFault bytes refusal = Fault (RowFieldRight bytes) rowOrder (rowRefusals bytes) (rowCount bytes) refusal
 
 -- When a refusal is deserved: its rule is broken, at its place, and every check before it passes. For 3, 5, 6 and 7 the place is the
 -- first byte of the first field, in the order tested, that breaks its rule.

@@ -1,14 +1,14 @@
 -- The rules of document 01 ("The table's bytes"), as tests.
 -- Assumes nothing.
-use Prim.Native.Nat.{ℕ, _+_, _-_, _*_}
-use mathlib.Core.Bool.{Bool, true}
+use Prim.Native.Nat.{ℕ, _-_}
+use mathlib.Core.Bool.{Bool}
 use mathlib.Core.List.{List}
 use lib.Dec.{eqb, leb, ltb}
 use lib.ListN.{length}
 use Rattle.model.specs.Choice.{both, either}
 use Rattle.model.specs.Tables.{Task, Row}
 use Rattle.tables.specs.Fields.{CountField, taskCountField, rowCountField, RecordField, periodField, costField, deadlineField, jitterField, priorityField, RowField, placeField, semaphoreField, longestField, orderField}
-use Rattle.tables.specs.Layout.{byteAt, versionOf, statedLength, taskCount, rowCount, lengthFor, headSize, taskAt, rowAt, costIn}
+use Rattle.tables.specs.Layout.{statedLength, taskCount, rowCount, lengthFor, taskAt, rowAt}
 
 -- is x between low and high, both allowed?
 abbrev pub between : ℕ → ℕ → ℕ → Bool

@@ -1,7 +1,6 @@
 -- `tables::fields::within` meets its contract, by its two tests.
 -- Assumes nothing.
 use borrow.Author.Tests.{le-leb, lt-leb}
-use borrow.Author.Needs.{needs}
 use Rattle.tables.proofs.fields.within.Statement.{statement}
 use Rattle.tables.proofs.fields.within.Tie as tie
 
