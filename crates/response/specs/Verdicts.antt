@@ -1,4 +1,4 @@
--- What each verdict says in document 01's words: a number, and the place where it has one.
+-- What each verdict says in the documents' words: a number, and the place where it has one.
 -- Assumes nothing.
 use Prim.Native.Nat.{ℕ, _+_, _*_}
 use mathlib.Core.Bool.{Bool, true, false}
