@@ -28,7 +28,7 @@ pub fn code(verdict: Verdict) -> u32
     }
 }
 
-// The refusal's place, or the first late place.
+// The refusal's place (a byte of the table, or 0), or the first late task's.
 pub fn place(verdict: Verdict) -> usize
     ensures { λ r. ⌜ r ≡ verdictPlace verdict ⌝ }
 {
@@ -39,7 +39,8 @@ pub fn place(verdict: Verdict) -> usize
     }
 }
 
-// The verdict in one number, for C: the code in the upper 32 bits, the place in the lower 32.
+// The verdict in one number, for C: the code in the upper 32 bits, the place in the lower 32. A table states its length in two bytes,
+// so no place reaches 65,536.
 pub fn pack(verdict: Verdict) -> u64
     requires { ⌜ verdictPlace verdict < 65536 ⌝ }
     ensures { λ r. ⌜ r ≡ packed verdict ⌝ }

@@ -14,11 +14,11 @@ use Rattle.tables.specs.declared.Refusal.the-variants.{TooShort, Unknown
 use Rattle.tables.specs.declared.Check.the-variants.{Clean, Refused}
 use Rattle.tables.specs.Layout.{versionOf, taskCount, rowCount}
 use Rattle.tables.specs.Refusals.{isClean, unless, firstIn}
-use Rattle.tables.specs.Fields.{CountField, taskCountField, rowCountField, countOrder, countRefusal, RecordField, periodField, costField, deadlineField, jitterField, priorityField, recordOrder, RowField, placeField, semaphoreField, longestField, orderField, rowOrder}
+use Rattle.tables.specs.Fields.{CountField, taskCountField, rowCountField, countOrder, countRefusal, RecordField, periodField, costField, deadlineField, jitterField, priorityField, recordOrder, refusalInRecord, RowField, placeField, semaphoreField, longestField, orderField, rowOrder, refusalInRow}
 use Rattle.tables.specs.Rules.{lengthsAgree}
 use Rattle.tables.specs.Checks.{countsCheck, recordCheck, rowCheck, headCheck, recordsCheck, rowsCheck, roomCheck, tableCheck, recordsRead, rowsRead}
 use Rattle.tables.specs.Meaning.{LongEnough, VersionKnown, CountRight, CountsRight, RecordFieldRight, RowFieldRight, RoomFor, HeadRight, RecordsRight, RowsRight, TableRight}
-use Rattle.tables.specs.Deserved.{Each, CountFault, recordRefusals, RecordFault, rowRefusals, RowFault, Deserved}
+use Rattle.tables.specs.Deserved.{Each, CountFault, RecordFault, RowFault, Deserved}
 use Rattle.tables.proofs.FaultLaws.{all-right, all-clean, fault-found, fault-refused}
 use Rattle.tables.proofs.FieldLaws.{never-refused, unless-clean, unless-refused, unless-pass, unless-fails, first-clean, both-clean, first-refused, then-refused, stop-refused, broken, fails, each-of, fields-right, fields-clean, fields-refused, broken-refused}
 use Rattle.tables.proofs.MeaningLaws as meaning
@@ -88,42 +88,42 @@ module _ (bytes : List ℕ) where
   pub records-right : recordsCheck bytes ≡ Clean → RecordsRight bytes (taskCount bytes)
   unfolding recordsCheck recordCheck
   records-right e =
-      all-right (RecordFieldRight bytes) _ recordRefusals recordOrder (meaning.record-means bytes) (meaning.record-holds bytes) record-every (taskCount bytes) e
+      all-right (RecordFieldRight bytes) _ refusalInRecord recordOrder (meaning.record-means bytes) (meaning.record-holds bytes) record-every (taskCount bytes) e
 
   records-clean : RecordsRight bytes (taskCount bytes) → recordsCheck bytes ≡ Clean
   unfolding recordsCheck recordCheck
   records-clean right =
-      all-clean (RecordFieldRight bytes) _ recordRefusals recordOrder (meaning.record-means bytes) (meaning.record-holds bytes) record-every (taskCount bytes) right
+      all-clean (RecordFieldRight bytes) _ refusalInRecord recordOrder (meaning.record-means bytes) (meaning.record-holds bytes) record-every (taskCount bytes) right
 
   records-refused : (r : Refusal) → recordsCheck bytes ≡ Refused r → RecordFault bytes r
   unfolding recordsCheck recordCheck
   records-refused r e =
-      fault-found (RecordFieldRight bytes) _ recordRefusals recordOrder (meaning.record-means bytes) (meaning.record-holds bytes) record-every (taskCount bytes) r e
+      fault-found (RecordFieldRight bytes) _ refusalInRecord recordOrder (meaning.record-means bytes) (meaning.record-holds bytes) record-every (taskCount bytes) r e
 
   records-give : (r : Refusal) → RecordFault bytes r → recordsCheck bytes ≡ Refused r
   unfolding recordsCheck recordCheck
   records-give r f =
-      fault-refused (RecordFieldRight bytes) _ recordRefusals recordOrder (meaning.record-means bytes) (meaning.record-holds bytes) record-every (taskCount bytes) r f
+      fault-refused (RecordFieldRight bytes) _ refusalInRecord recordOrder (meaning.record-means bytes) (meaning.record-holds bytes) record-every (taskCount bytes) r f
 
   pub rows-right : rowsCheck bytes ≡ Clean → RowsRight bytes (rowCount bytes)
   unfolding rowsCheck rowCheck
   rows-right e =
-      all-right (RowFieldRight bytes) _ (rowRefusals bytes) rowOrder (meaning.row-means bytes) (meaning.row-holds bytes) row-every (rowCount bytes) e
+      all-right (RowFieldRight bytes) _ (refusalInRow (taskCount bytes)) rowOrder (meaning.row-means bytes) (meaning.row-holds bytes) row-every (rowCount bytes) e
 
   rows-clean : RowsRight bytes (rowCount bytes) → rowsCheck bytes ≡ Clean
   unfolding rowsCheck rowCheck
   rows-clean right =
-      all-clean (RowFieldRight bytes) _ (rowRefusals bytes) rowOrder (meaning.row-means bytes) (meaning.row-holds bytes) row-every (rowCount bytes) right
+      all-clean (RowFieldRight bytes) _ (refusalInRow (taskCount bytes)) rowOrder (meaning.row-means bytes) (meaning.row-holds bytes) row-every (rowCount bytes) right
 
   rows-refused : (r : Refusal) → rowsCheck bytes ≡ Refused r → RowFault bytes r
   unfolding rowsCheck rowCheck
   rows-refused r e =
-      fault-found (RowFieldRight bytes) _ (rowRefusals bytes) rowOrder (meaning.row-means bytes) (meaning.row-holds bytes) row-every (rowCount bytes) r e
+      fault-found (RowFieldRight bytes) _ (refusalInRow (taskCount bytes)) rowOrder (meaning.row-means bytes) (meaning.row-holds bytes) row-every (rowCount bytes) r e
 
   rows-give : (r : Refusal) → RowFault bytes r → rowsCheck bytes ≡ Refused r
   unfolding rowsCheck rowCheck
   rows-give r f =
-      fault-refused (RowFieldRight bytes) _ (rowRefusals bytes) rowOrder (meaning.row-means bytes) (meaning.row-holds bytes) row-every (rowCount bytes) r f
+      fault-refused (RowFieldRight bytes) _ (refusalInRow (taskCount bytes)) rowOrder (meaning.row-means bytes) (meaning.row-holds bytes) row-every (rowCount bytes) r f
 
   -- where no record, or no row, is at fault, all are read
   pub records-all : recordsCheck bytes ≡ Clean → recordsRead bytes ≡ taskCount bytes
@@ -160,16 +160,16 @@ module _ (bytes : List ℕ) where
 
     -- a refusal that is a field's is one of 3, of 5 and 6, or of 7
     count-deserved : (r : Refusal) → LongEnough bytes → VersionKnown bytes → CountFault bytes r → Deserved bytes answers rounds r
-    count-deserved r long version f = subst (Deserved bytes answers rounds) (sym (f .given)) (go (f .field) (subst (CountFault bytes) (f .given) f))
+    count-deserved r long version f = deserve (sym (f .given)) (go (f .field) (subst (CountFault bytes) (f .given) f))
       where
         go : (field : CountField) → CountFault bytes (countRefusal field) → Deserved bytes answers rounds (countRefusal field)
         go taskCountField own = (long, version, own)
         go rowCountField own = (long, version, own)
 
     record-deserved : (r : Refusal) → HeadRight bytes → RecordFault bytes r → Deserved bytes answers rounds r
-    record-deserved r head f = subst (Deserved bytes answers rounds) (sym (f .given)) (go (f .field) (subst (RecordFault bytes) (f .given) f))
+    record-deserved r head f = deserve (sym (f .given)) (go (f .field) (subst (RecordFault bytes) (f .given) f))
       where
-        go : (field : RecordField) → RecordFault bytes (recordRefusals (f .i) field) → Deserved bytes answers rounds (recordRefusals (f .i) field)
+        go : (field : RecordField) → RecordFault bytes (refusalInRecord (f .i) field) → Deserved bytes answers rounds (refusalInRecord (f .i) field)
         go periodField own = (head, own)
         go costField own = (head, own)
         go deadlineField own = (head, own)
@@ -177,9 +177,9 @@ module _ (bytes : List ℕ) where
         go priorityField own = (head, own)
 
     row-deserved : (r : Refusal) → HeadRight bytes → RecordsRight bytes (taskCount bytes) → RowFault bytes r → Deserved bytes answers rounds r
-    row-deserved r head records f = subst (Deserved bytes answers rounds) (sym (f .given)) (go (f .field) (subst (RowFault bytes) (f .given) f))
+    row-deserved r head records f = deserve (sym (f .given)) (go (f .field) (subst (RowFault bytes) (f .given) f))
       where
-        go : (field : RowField) → RowFault bytes (rowRefusals bytes (f .i) field) → Deserved bytes answers rounds (rowRefusals bytes (f .i) field)
+        go : (field : RowField) → RowFault bytes (refusalInRow (taskCount bytes) (f .i) field) → Deserved bytes answers rounds (refusalInRow (taskCount bytes) (f .i) field)
         go placeField own = (head, records, own)
         go semaphoreField own = (head, records, own)
         go longestField own = (head, records, own)

@@ -1,10 +1,13 @@
 -- Checks one after another, and fields tested in order: the first that fails is the one that is refused.
 -- Assumes nothing.
-use mathlib.Core.Path.{_≡_, refl, sym, ap, subst}
+use Prim.Native.Nat.{ℕ, _+_, _<_}
+use mathlib.Core.Path.{_≡_, refl, sym, _∙_, ap, subst}
 use mathlib.Core.Bool.{Bool, true, false}
 use mathlib.Core.List.{List, [], _∷_, _++_}
 use mathlib.Core.Logic.{_⊎_, inl, inr}
+use Rattle.model.specs.Search.{firstOf, cleanCount}
 use Rattle.model.proofs.Tests.{clash}
+use Rattle.model.proofs.First as first-laws
 use Rattle.tables.specs.declared.Refusal.{Refusal}
 use Rattle.tables.specs.declared.Check.{Check}
 use Rattle.tables.specs.declared.Check.the-variants.{Clean, Refused}
@@ -14,6 +17,21 @@ use Rattle.tables.specs.Deserved.{Each, FirstBroken}
 pub clean-only : (check : Check) → isClean check ≡ true → check ≡ Clean
 clean-only Clean p = refl
 clean-only (Refused r) p = absurd (clash false p refl)
+
+-- checks 0 to k − 1 are clean: what a reader that takes them in turn has found where it stops
+module _ (check : ℕ → Check) (k : ℕ) (clean : firstOf isClean Clean check k ≡ Clean) where
+  pub stops-at : (n : ℕ) → k < n → (r : Refusal) → check k ≡ Refused r →
+      (Refused r ≡ firstOf isClean Clean check n) × (cleanCount isClean Clean check n ≡ k)
+  stops-at n inside r fault = (
+    sym (first-laws.first-stop isClean Clean refl check k clean (ap isClean fault) n inside ∙ fault),
+    first-laws.count-stop isClean Clean refl check k clean (ap isClean fault) n inside,
+  )
+
+  pub goes-on : check k ≡ Clean → firstOf isClean Clean check (k + 1) ≡ Clean
+  goes-on e = first-laws.first-on isClean Clean refl check k clean e
+
+  pub goes-through : (n : ℕ) → n ≡ k → (Clean ≡ firstOf isClean Clean check n) × (cleanCount isClean Clean check n ≡ k)
+  goes-through n all = rw all (sym clean, first-laws.count-on isClean Clean refl check k clean)
 
 pub never-refused : {r : Refusal} → Clean ≡ Refused r → ⊥
 never-refused e = clash true refl (ap isClean e)

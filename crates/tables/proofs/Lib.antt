@@ -7,3 +7,4 @@ pub mod HeadLaws
 pub mod RecordLaws
 pub mod RowLaws
 pub mod PlaceLaws
+pub mod ExampleLaws

@@ -19,7 +19,7 @@ use Rattle.tables.specs.Rules.{between, countTest, lengthsAgree, priorit
 use Rattle.tables.specs.Checks.{rowTests}
 use Rattle.tables.specs.Meaning.{Within, CountRight, LengthsEqual, PriorityInOrder, RecordFieldRight, RowsRise, RowFieldRight, RoomFor}
 
-between-means : (low high x : ℕ) → between low high x ≡ true → Within low high x
+pub between-means : (low high x : ℕ) → between low high x ≡ true → Within low high x
 between-means low high x p =
     let b = both-true (leb low x) (leb x high) p in
     record { low = leb-true low x (b .0); high = leb-true x high (b .1) }

@@ -3,7 +3,7 @@
 use Prim.Native.Nat.{ℕ, _+_, _-_, _≤_, _<_}
 use native.Mathlib.Omega.{arith}
 use mathlib.Core.Path.{_≡_, refl, sym, _∙_, ap}
-use mathlib.Core.Bool.{Bool, false}
+use mathlib.Core.Bool.{Bool}
 use mathlib.Core.List.{List}
 use lib.ListN.{length}
 use borrow.Author.Tests.{ne-eqb, lt-ltb}
@@ -15,10 +15,11 @@ use Rattle.tables.specs.declared.Check.the-variants.{Clean, Refused}
 use Rattle.tables.specs.declared.Refusal.{Refusal}
 use Rattle.tables.specs.Layout.{taskCount, recordStart, recordFrom, taskAt, priorityIn}
 use Rattle.tables.specs.Refusals.{isClean, fieldsCheck}
-use Rattle.tables.specs.Fields.{recordOrder, recordRefusal}
+use Rattle.tables.specs.Fields.{recordOrder, refusalInRecord}
 use Rattle.tables.specs.Rules.{priorityFits, recordTest}
 use Rattle.tables.specs.Checks.{recordCheck, recordsCheck, recordsRead}
 use Rattle.tables.specs.Reading.{RecordsFit, falling, recordFault}
+use Rattle.tables.proofs.FieldLaws.{stops-at, goes-on, goes-through}
 
 -- before record i is read, where i is at least 1
 pub record Reading (bytes : List ℕ) (n i start : ℕ) : Type 0 where
@@ -37,7 +38,7 @@ unfolding recordCheck
 fault-same bytes i task start above is here same =
     ap (λ (t : Task). recordFault t start above) is
     ∙ ap (λ (s : ℕ). recordFault (taskAt bytes i) s above) here
-    ∙ ap (λ (b : Bool). fieldsCheck (recordTest (taskAt bytes i) b) (recordRefusal (recordStart i)) recordOrder) same
+    ∙ ap (λ (b : Bool). fieldsCheck (recordTest (taskAt bytes i) b) (refusalInRecord i) recordOrder) same
 
 -- the first record, which none stands before
 pub first-fault : (bytes : List ℕ) (task : Task) → task ≡ taskAt bytes 0 → task .priority < 256 → recordFault task 5 256 ≡ recordCheck bytes 0
@@ -50,10 +51,7 @@ first-fault bytes task is small =
 pub first-refuses : (bytes : List ℕ) (r : Refusal) → 1 ≤ taskCount bytes → recordCheck bytes 0 ≡ Refused r → Refused r ≡ recordsCheck bytes
 unfolding recordsCheck
 first-refuses bytes r some fault =
-    sym
-    (first-laws.first-stop isClean Clean refl (recordCheck bytes) 0 (first-laws.first-none isClean Clean refl (recordCheck bytes))
-    (ap isClean fault) (taskCount bytes) some
-    ∙ fault)
+    stops-at (recordCheck bytes) 0 (first-laws.first-none isClean Clean refl (recordCheck bytes)) (taskCount bytes) some r fault .0
 
 module _ (bytes : List ℕ) (n : ℕ) where
   pub reading-one : {priorities periods costs deadlines jitters : List ℕ} →
@@ -66,8 +64,7 @@ module _ (bytes : List ℕ) (n : ℕ) where
         some = omega arith;
         within = f .some;
         here = refl;
-        clean =
-            first-laws.first-on isClean Clean refl (recordCheck bytes) 0 (first-laws.first-none isClean Clean refl (recordCheck bytes)) (f .firstClean);
+        clean = goes-on (recordCheck bytes) 0 (first-laws.first-none isClean Clean refl (recordCheck bytes)) (f .firstClean);
       }
 
   -- the priority test of the code is the rule's
@@ -87,12 +84,7 @@ module _ (bytes : List ℕ) (n : ℕ) where
     pub record-wrong : (refusal : Refusal) → checked ≡ Refused refusal → (Refused refusal ≡ recordsCheck bytes) × (recordsRead bytes ≡ i)
     unfolding recordsCheck
     record-wrong refusal e =
-        let fault = sym check-is ∙ e in
-        let dirty : isClean (recordCheck bytes i) ≡ false = ap isClean fault in
-        let inside : i < taskCount bytes = omega (arith, r .counted) in (
-          sym (first-laws.first-stop isClean Clean refl (recordCheck bytes) i (r .clean) dirty (taskCount bytes) inside ∙ fault),
-          first-laws.count-stop isClean Clean refl (recordCheck bytes) i (r .clean) dirty (taskCount bytes) inside,
-        )
+        stops-at (recordCheck bytes) i (r .clean) (taskCount bytes) (omega (arith, r .counted)) refusal (sym check-is ∙ e)
 
     pub reading-more : checked ≡ Clean → Reading bytes n (i + 1) (start + 17)
     reading-more e =
@@ -103,14 +95,9 @@ module _ (bytes : List ℕ) (n : ℕ) where
           some = omega arith;
           within = omega arith;
           here = omega (arith, r .here);
-          clean = first-laws.first-on isClean Clean refl (recordCheck bytes) i (r .clean) (sym check-is ∙ e);
+          clean = goes-on (recordCheck bytes) i (r .clean) (sym check-is ∙ e);
         }
 
   pub reading-all : {i start : ℕ} → Reading bytes n i start → n ≤ i → (Clean ≡ recordsCheck bytes) × (recordsRead bytes ≡ i)
   unfolding recordsCheck
-  reading-all {i} r h =
-      let all : taskCount bytes ≡ i = omega (arith, r .counted, r .within) in
-      rw all (
-        sym (r .clean),
-        first-laws.count-on isClean Clean refl (recordCheck bytes) i (r .clean),
-      )
+  reading-all {i} r h = goes-through (recordCheck bytes) i (r .clean) (taskCount bytes) (omega (arith, r .counted, r .within))

@@ -14,7 +14,7 @@ use borrow.Author.Tests.{ne-eqb, eq-eqb, lt-ltb, le-ltb, ltb-true}
 use Rattle.model.specs.Choice.{either}
 use Rattle.model.specs.Tables.{Row}
 use Rattle.model.specs.Search.{firstOf}
-use Rattle.model.proofs.Tests.{ltb?, leb?, clash}
+use Rattle.model.proofs.Tests.{ltb?}
 use Rattle.model.proofs.First as first-laws
 use Rattle.tables.specs.declared.Check.{Check}
 use Rattle.tables.specs.declared.Check.the-variants.{Clean, Refused}
@@ -25,6 +25,8 @@ use Rattle.tables.specs.Fields.{rowOrder, rowRefusal}
 use Rattle.tables.specs.Rules.{between, rowInOrder, rowAfter, rowTest}
 use Rattle.tables.specs.Checks.{rowCheck, rowsCheck, rowsRead}
 use Rattle.tables.specs.Reading.{RowsFit, rowKey, rowFault}
+use Rattle.tables.proofs.FieldLaws.{stops-at, goes-on, goes-through}
+use Rattle.tables.proofs.MeaningLaws.{between-means}
 
 -- the key of the row before row k: 0 before the first, which is below every key
 pub keyBefore : List ℕ → ℕ → ℕ
@@ -70,13 +72,6 @@ unfolding orElse unless
 then-same true r h = h refl
 then-same false r h = refl
 
-between-low : (low high x : ℕ) → between low high x ≡ true → low ≤ x
-between-low low high x p =
-    elim (leb? low x) [
-      | inl y ↦ y .1
-      | inr z ↦ absurd (clash (between low high x) p (rw (z .0)))
-    ]
-
 -- the rules of a row agree where the cost agrees at a place below n, and the order at a semaphore of at least 1
 row-same : (n start : ℕ) {cost cost′ : ℕ} {inOrder inOrder′ : Bool} (row : Row) → (row .place < n → cost ≡ cost′) →
     (1 ≤ row .semaphore → inOrder ≡ inOrder′) →
@@ -87,7 +82,7 @@ row-same n start {cost} {cost′} {inOrder} {inOrder′} row costs orders =
     (λ inside.
     rw (costs (ltb-true (row .place) n inside))
     (then-same (between 1 16 (row .semaphore)) _
-    (λ right. rw (orders (between-low 1 16 (row .semaphore) right)))))
+    (λ right. rw (orders (between-means 1 16 (row .semaphore) right .low)))))
 
 module _ (bytes : List ℕ) (n m : ℕ) (costs : List ℕ) where
   pub scanning-none : {places semaphores longest : List ℕ} → RowsFit bytes n m costs places semaphores longest →
@@ -151,12 +146,7 @@ module _ (bytes : List ℕ) (n m : ℕ) (costs : List ℕ) where
       pub row-wrong : (refusal : Refusal) → checked ≡ Refused refusal → (Refused refusal ≡ rowsCheck bytes) × (rowsRead bytes ≡ k)
       unfolding rowsCheck
       row-wrong refusal e =
-          let fault = sym fault-same ∙ sym found ∙ e in
-          let dirty : isClean (rowCheck bytes k) ≡ false = ap isClean fault in
-          let inside : k < rowCount bytes = omega (arith, s .rowsCounted) in (
-            sym (first-laws.first-stop isClean Clean refl (rowCheck bytes) k (s .clean) dirty (rowCount bytes) inside ∙ fault),
-            first-laws.count-stop isClean Clean refl (rowCheck bytes) k (s .clean) dirty (rowCount bytes) inside,
-          )
+          stops-at (rowCheck bytes) k (s .clean) (rowCount bytes) (omega (arith, s .rowsCounted)) refusal (sym fault-same ∙ sym found ∙ e)
 
       pub scanning-more : checked ≡ Clean → (next : ℕ) → next ≡ rowKey row → Scanning bytes n m costs (k + 1) (start + 6) next
       unfolding keyBefore
@@ -171,7 +161,7 @@ module _ (bytes : List ℕ) (n m : ℕ) (costs : List ℕ) where
             costsRead = s .costsRead;
             within = omega arith;
             here = omega (arith, s .here);
-            clean = first-laws.first-on isClean Clean refl (rowCheck bytes) k (s .clean) (sym fault-same ∙ sym found ∙ e);
+            clean = goes-on (rowCheck bytes) k (s .clean) (sym fault-same ∙ sym found ∙ e);
             last = rw add-one (key ∙ ap rowKey as-row);
             byte = λ j p.
                 let same : j ≡ k = omega arith in
@@ -180,6 +170,4 @@ module _ (bytes : List ℕ) (n m : ℕ) (costs : List ℕ) where
 
   pub scanning-all : {k start before : ℕ} → Scanning bytes n m costs k start before → m ≤ k → (Clean ≡ rowsCheck bytes) × (rowsRead bytes ≡ k)
   unfolding rowsCheck
-  scanning-all {k} s h =
-      let all : rowCount bytes ≡ k = omega (arith, s .rowsCounted, s .within) in
-      rw all (sym (s .clean), first-laws.count-on isClean Clean refl (rowCheck bytes) k (s .clean))
+  scanning-all {k} s h = goes-through (rowCheck bytes) k (s .clean) (rowCount bytes) (omega (arith, s .rowsCounted, s .within))

@@ -10,9 +10,9 @@ use Rattle.model.specs.Search.{firstOf, cleanCount}
 use Rattle.tables.specs.declared.Refusal.the-variants.{TooShort, UnknownVersion, LengthsDiffer, NoRoom}
 use Rattle.tables.specs.declared.Check.{Check}
 use Rattle.tables.specs.declared.Check.the-variants.{Clean}
-use Rattle.tables.specs.Layout.{headSize, versionOf, taskCount, rowCount, recordStart, rowStart, taskAt, rowAt, costIn}
+use Rattle.tables.specs.Layout.{headSize, versionOf, taskCount, rowCount, taskAt, rowAt, costIn}
 use Rattle.tables.specs.Refusals.{isClean, unless, fieldsCheck, firstIn}
-use Rattle.tables.specs.Fields.{countOrder, countRefusal, recordOrder, recordRefusal, RowField, rowOrder, rowRefusal}
+use Rattle.tables.specs.Fields.{countOrder, countRefusal, recordOrder, refusalInRecord, RowField, rowOrder, refusalInRow}
 use Rattle.tables.specs.Rules.{countTest, lengthsAgree, priorityFits, recordTest, rowInOrder, rowTest}
 
 -- refusal 3
@@ -21,15 +21,16 @@ countsCheck bytes = fieldsCheck (countTest (taskCount bytes) (rowCount bytes)) c
 
 -- "Task records are taken in order, each tested for 5 and then 6"
 unfoldable pub recordCheck : List ℕ → ℕ → Check
-recordCheck bytes i = fieldsCheck (recordTest (taskAt bytes i) (priorityFits bytes i)) (recordRefusal (recordStart i)) recordOrder
+recordCheck bytes i = fieldsCheck (recordTest (taskAt bytes i) (priorityFits bytes i)) (refusalInRecord i) recordOrder
 
 -- the tests of row k, with the cost of the task that it names
 abbrev pub rowTests : List ℕ → ℕ → RowField → Bool
 rowTests bytes k =
     rowTest (taskCount bytes) (costIn bytes (rowAt bytes k .place)) (rowInOrder bytes k (rowAt bytes k)) (rowAt bytes k)
 
+-- "then the rows in order for 7"
 unfoldable pub rowCheck : List ℕ → ℕ → Check
-rowCheck bytes k = fieldsCheck (rowTests bytes k) (rowRefusal (rowStart (taskCount bytes) k)) rowOrder
+rowCheck bytes k = fieldsCheck (rowTests bytes k) (refusalInRow (taskCount bytes) k) rowOrder
 
 -- refusals 1 to 4
 abbrev pub headChecks : List ℕ → List Check

@@ -5,8 +5,8 @@ use mathlib.Core.Path.{_≡_}
 use mathlib.Core.List.{List, [], _∷_, _++_}
 use Rattle.tables.specs.declared.Refusal.{Refusal}
 use Rattle.tables.specs.declared.Refusal.the-variants.{TooShort, UnknownVersion, CountOutOfRange, LengthsDiffer, NumberOutOfRange, PriorityOutOfOrder, SectionRow, NoRoom, NotPlayable}
-use Rattle.tables.specs.Layout.{taskCount, rowCount, recordStart, rowStart}
-use Rattle.tables.specs.Fields.{CountField, countOrder, countRefusal, RecordField, recordOrder, recordRefusal, RowField, rowOrder, rowRefusal}
+use Rattle.tables.specs.Layout.{taskCount, rowCount}
+use Rattle.tables.specs.Fields.{CountField, countOrder, countRefusal, recordOrder, refusalInRecord, rowOrder, refusalInRow}
 use Rattle.tables.specs.Meaning.{LongEnough, VersionKnown, CountRight, CountsRight, LengthsEqual, RecordFieldRight, RowFieldRight, RoomFor, HeadRight, RecordsRight, TableRight}
 
 -- every field of a list keeps its rule
@@ -37,18 +37,11 @@ pub record Fault {F : Type 0} (Right : ℕ → F → Type 0) (order : List F) (r
   pub first : FirstBroken (Right i) order field
   pub given : refusal ≡ refusalOf i field
 
--- the refusal of a field of record i, and of row k
-abbrev pub recordRefusals : ℕ → RecordField → Refusal
-recordRefusals i = recordRefusal (recordStart i)
-
-abbrev pub rowRefusals : List ℕ → ℕ → RowField → Refusal
-rowRefusals bytes k = rowRefusal (rowStart (taskCount bytes) k)
-
 abbrev pub RecordFault : List ℕ → Refusal → Type 0
-RecordFault bytes refusal = Fault (RecordFieldRight bytes) recordOrder recordRefusals (taskCount bytes) refusal
+RecordFault bytes refusal = Fault (RecordFieldRight bytes) recordOrder refusalInRecord (taskCount bytes) refusal
 
 abbrev pub RowFault : List ℕ → Refusal → Type 0
-RowFault bytes refusal = Fault (RowFieldRight bytes) rowOrder (rowRefusals bytes) (rowCount bytes) refusal
+RowFault bytes refusal = Fault (RowFieldRight bytes) rowOrder (refusalInRow (taskCount bytes)) (rowCount bytes) refusal
 
 -- When a refusal is deserved: its rule is broken, at its place, and every check before it passes. For 3, 5, 6 and 7 the place is the
 -- first byte of the first field, in the order tested, that breaks its rule.

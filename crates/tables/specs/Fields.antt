@@ -4,7 +4,7 @@ use Prim.Native.Nat.{ℕ, _+_}
 use mathlib.Core.List.{List, [], _∷_}
 use Rattle.tables.specs.declared.Refusal.{Refusal}
 use Rattle.tables.specs.declared.Refusal.the-variants.{CountOutOfRange, NumberOutOfRange, PriorityOutOfOrder, SectionRow}
-use Rattle.tables.specs.Layout.{taskCountAt, rowCountAt, priorityAt, periodAt, costAt, deadlineAt, jitterAt, placeAt, semaphoreAt, longestAt}
+use Rattle.tables.specs.Layout.{recordStart, rowStart, taskCountAt, rowCountAt, priorityAt, periodAt, costAt, deadlineAt, jitterAt, placeAt, semaphoreAt, longestAt}
 use Rattle.tables.specs.Refusals.{offset}
 
 pub data CountField : Type 0 where
@@ -45,6 +45,9 @@ recordRefusal start deadlineField = NumberOutOfRange (offset (start + deadlineAt
 recordRefusal start jitterField = NumberOutOfRange (offset (start + jitterAt))
 recordRefusal start priorityField = PriorityOutOfOrder (offset (start + priorityAt))
 
+abbrev pub refusalInRecord : ℕ → RecordField → Refusal
+refusalInRecord i = recordRefusal (recordStart i)
+
 -- "in a row place, semaphore, length, then row order (at the row's first byte)"
 abbrev pub rowOrder : List RowField
 rowOrder = placeField ∷ semaphoreField ∷ longestField ∷ orderField ∷ []
@@ -52,8 +55,13 @@ rowOrder = placeField ∷ semaphoreField ∷ longestField ∷ orderField ∷ []
 abbrev pub orderAt : ℕ
 orderAt = 0
 
+-- 7, in the row that begins at `start`
 abbrev pub rowRefusal : ℕ → RowField → Refusal
 rowRefusal start placeField = SectionRow (offset (start + placeAt))
 rowRefusal start semaphoreField = SectionRow (offset (start + semaphoreAt))
 rowRefusal start longestField = SectionRow (offset (start + longestAt))
 rowRefusal start orderField = SectionRow (offset (start + orderAt))
+
+-- in row k, behind n records
+abbrev pub refusalInRow : ℕ → ℕ → RowField → Refusal
+refusalInRow n k = rowRefusal (rowStart n k)

@@ -1,4 +1,4 @@
--- What the readers of records and rows ask of their slices, and how a record in the code is a task.
+-- What the readers of records and rows ask of their slices and find, and how a record in the code is a task.
 -- Assumes nothing.
 use Prim.Native.Nat.{ℕ, _+_, _*_, _≤_, _<_}
 use mathlib.Core.Bool.{Bool}
@@ -50,7 +50,8 @@ pub record RecordsFit (bytes : List ℕ) (n : ℕ) (priorities periods costs dea
   pub deadlinesLong : n ≤ length deadlines
   pub jittersLong : n ≤ length jitters
 
--- n and m are the numbers of records and rows, the rows end within the bytes, each slice has room for them, and the costs are those of the records
+-- n and m are the numbers of records and rows, the rows end within the bytes, each slice has room for them, and the costs are those
+-- of the records
 pub record RowsFit (bytes : List ℕ) (n m : ℕ) (costs places semaphores longest : List ℕ) : Type 0 where
   pub tasksCounted : n ≡ taskCount bytes
   pub rowsCounted : m ≡ rowCount bytes

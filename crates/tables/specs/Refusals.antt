@@ -60,7 +60,7 @@ unfoldable pub firstIn : List Check → Check
 firstIn [] = Clean
 firstIn (check ∷ checks) = orElse check (firstIn checks)
 
--- the fields that have a test, in the order in which they are tested: the refusal of the first that fails
+-- the check of one field, and of fields in the order in which they are tested: the refusal of the first whose test fails
 abbrev pub fieldCheck : {F : Type 0} → (F → Bool) → (F → Refusal) → F → Check
 fieldCheck test refusal field = unless (test field) (refusal field)
 
