@@ -1,6 +1,6 @@
-/* plain.c: the analysis of document 01 as one would write it in C, without proofs: decoded once
- * into local arrays, one divide for each load and round, and no cleverness beyond that. Compiled
- * with -DSKIP_DIVIDE it leaves out the divides that document 02's L2 does without. */
+/* plain.c: the analysis of document 01 and of document 02's L4 as one would write it in C, without
+ * proofs: decoded once into local arrays, one divide for each load and round, and no cleverness
+ * beyond that. Compiled with -DSKIP_DIVIDE it leaves out the divides that L2 does without. */
 #include "plain.h"
 #include "plain_table.h"
 
@@ -31,7 +31,7 @@ static uint64_t demand(const struct tasks *tasks, size_t i, uint32_t start, uint
     uint64_t sum = start;
 
     for (size_t j = 0; j < i; j++)
-        sum += (uint64_t)divide_up(window + tasks->J[j], tasks->T[j]) * tasks->C[j];
+        sum += (uint64_t)divide_up(window + tasks->spread[j], tasks->T[j]) * tasks->C[j];
     return sum;
 }
 
@@ -40,14 +40,14 @@ static uint32_t respond(const struct tasks *tasks, size_t i, uint32_t start, uin
 {
     uint32_t window = start, done = 1, answer = 0;
 
-    if (start + tasks->J[i] <= tasks->D[i]) {
+    if (start + tasks->latest[i] <= tasks->D[i]) {
         for (;; done++) {
             uint64_t next = demand(tasks, i, start, window);
 
-            if (next + tasks->J[i] > tasks->D[i])
+            if (next + tasks->latest[i] > tasks->D[i])
                 break;
             if (next == window) {
-                answer = window + tasks->J[i];
+                answer = window + tasks->latest[i];
                 break;
             }
             window = (uint32_t)next;

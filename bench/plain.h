@@ -1,5 +1,5 @@
 /* plain.h: the analysis of document 01 and the engine of document 02, L1, in plain C, to test and
- * to measure against. */
+ * to measure against. Both read tables of versions 1 and 2. */
 #ifndef PLAIN_H
 #define PLAIN_H
 

@@ -4,10 +4,11 @@
 #include "plain.h"
 #include "plain_table.h"
 
-static int has_jitter(const struct tasks *tasks)
+/* A delay that is not 0; the earliest is no greater than the latest. */
+static int has_delay(const struct tasks *tasks)
 {
     for (size_t i = 0; i < tasks->n; i++)
-        if (tasks->J[i])
+        if (tasks->latest[i])
             return 1;
     return 0;
 }
@@ -61,7 +62,7 @@ uint64_t plain_play(const uint8_t *table, size_t table_len,
         return result;
     if (answers_len < tasks.n)
         return verdict(8, 0);
-    if (rows.m || has_jitter(&tasks))
+    if (rows.m || has_delay(&tasks))
         return verdict(9, 0);
 
     for (size_t i = 0; i < tasks.n; i++)

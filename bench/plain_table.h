@@ -12,12 +12,12 @@ enum {
     MOST_SEMAPHORES = 16,
     MOST_TICKS = 1000000,
     HEADER_BYTES = 5,
-    TASK_BYTES = 17,
     ROW_BYTES = 6,
     LATE = 255
 };
 
-/* Where each field begins: n and m in the table, the others in their record or row. */
+/* Where each field begins: n and m in the table, the others in their record or row. Where the
+ * delays begin is for the version to say. */
 enum {
     N_AT = 3,
     M_AT = 4,
@@ -25,16 +25,23 @@ enum {
     T_AT = 1,
     C_AT = 5,
     D_AT = 9,
-    J_AT = 13,
     PLACE_AT = 0,
     SEMAPHORE_AT = 1,
     LENGTH_AT = 2
 };
 
+/* What the version decides. */
+struct layout {
+    size_t task_bytes, most_tasks;
+    size_t earliest_at; /* 0 if a record has no earliest delay: it is 0 then */
+    size_t latest_at;
+};
+
 struct tasks {
     size_t n;
     uint8_t priority[MOST_TASKS];
-    uint32_t T[MOST_TASKS], C[MOST_TASKS], D[MOST_TASKS], J[MOST_TASKS];
+    uint32_t T[MOST_TASKS], C[MOST_TASKS], D[MOST_TASKS];
+    uint32_t spread[MOST_TASKS], latest[MOST_TASKS]; /* spread is latest - earliest */
 };
 
 struct rows {
@@ -54,72 +61,100 @@ static uint32_t big_endian_32(const uint8_t *at)
     return (uint32_t)at[0] << 24 | (uint32_t)at[1] << 16 | (uint32_t)at[2] << 8 | at[3];
 }
 
-/* Where a record and a row begin in the table. */
-static size_t task_at(size_t i)
+/* Is it a known version? Version 1 has a jitter, which is the latest delay. */
+static int read_version(uint8_t version, struct layout *layout)
 {
-    return HEADER_BYTES + TASK_BYTES * i;
+    switch (version) {
+    case 1:
+        layout->task_bytes = 17;
+        layout->most_tasks = 32;
+        layout->earliest_at = 0;
+        layout->latest_at = 13;
+        return 1;
+    case 2:
+        layout->task_bytes = 21;
+        layout->most_tasks = 32;
+        layout->earliest_at = 13;
+        layout->latest_at = 17;
+        return 1;
+    default:
+        return 0;
+    }
 }
 
-static size_t row_at(size_t n, size_t r)
+/* Where a record and a row begin in the table. */
+static size_t task_at(const struct layout *layout, size_t i)
 {
-    return task_at(n) + ROW_BYTES * r;
+    return HEADER_BYTES + layout->task_bytes * i;
+}
+
+static size_t row_at(const struct layout *layout, size_t n, size_t r)
+{
+    return task_at(layout, n) + ROW_BYTES * r;
 }
 
 /* Refusals 1 to 4. */
-static uint64_t read_header(const uint8_t *table, size_t length, size_t *n, size_t *m)
+static uint64_t read_header(const uint8_t *table, size_t length, struct layout *layout, size_t *n,
+                            size_t *m)
 {
     size_t stated;
 
     if (length < HEADER_BYTES)
         return verdict(1, 0);
-    if (table[0] != 1)
+    if (!read_version(table[0], layout))
         return verdict(2, 0);
     stated = (size_t)table[1] << 8 | table[2];
     *n = table[N_AT];
     *m = table[M_AT];
-    if (*n < 1 || *n > MOST_TASKS)
+    if (*n < 1 || *n > layout->most_tasks)
         return verdict(3, N_AT);
     if (*m > MOST_ROWS)
         return verdict(3, M_AT);
-    if (stated != length || row_at(*n, *m) != length)
+    if (stated != length || row_at(layout, *n, *m) != length)
         return verdict(4, 0);
     return 0;
 }
 
 /* Refusals 5 and 6, record by record, at the byte of the first faulty field (document 02, L3). The
  * priority stands first and is tested last. */
-static uint64_t read_tasks(const uint8_t *at, struct tasks *tasks)
+static uint64_t read_tasks(const uint8_t *at, const struct layout *layout, struct tasks *tasks)
 {
     uint32_t before = 256;
 
-    for (size_t i = 0; i < tasks->n; i++, at += TASK_BYTES) {
+    for (size_t i = 0; i < tasks->n; i++, at += layout->task_bytes) {
         uint8_t priority = at[PRIORITY_AT];
         uint32_t T = big_endian_32(at + T_AT), C = big_endian_32(at + C_AT);
-        uint32_t D = big_endian_32(at + D_AT), J = big_endian_32(at + J_AT);
+        uint32_t D = big_endian_32(at + D_AT);
+        uint32_t earliest = layout->earliest_at ? big_endian_32(at + layout->earliest_at) : 0;
+        uint32_t latest = big_endian_32(at + layout->latest_at);
 
         if (T < 1 || T > MOST_TICKS)
-            return verdict(5, task_at(i) + T_AT);
+            return verdict(5, task_at(layout, i) + T_AT);
         if (C < 1 || C > MOST_TICKS)
-            return verdict(5, task_at(i) + C_AT);
+            return verdict(5, task_at(layout, i) + C_AT);
         if (D < 1 || D > T)
-            return verdict(5, task_at(i) + D_AT);
-        if (J > MOST_TICKS)
-            return verdict(5, task_at(i) + J_AT);
+            return verdict(5, task_at(layout, i) + D_AT);
+        if (earliest > MOST_TICKS)
+            return verdict(5, task_at(layout, i) + layout->earliest_at);
+        if (latest > MOST_TICKS || earliest > latest)
+            return verdict(5, task_at(layout, i) + layout->latest_at);
         if (priority == 0 || priority >= before)
-            return verdict(6, task_at(i) + PRIORITY_AT);
+            return verdict(6, task_at(layout, i) + PRIORITY_AT);
         before = priority;
         tasks->priority[i] = priority;
         tasks->T[i] = T;
         tasks->C[i] = C;
         tasks->D[i] = D;
-        tasks->J[i] = J;
+        tasks->spread[i] = latest - earliest;
+        tasks->latest[i] = latest;
     }
     return 0;
 }
 
 /* Refusal 7, at the byte of the first faulty field, or at the row's first for its order; and the
  * semaphores' ceilings. */
-static uint64_t read_rows(const uint8_t *at, const struct tasks *tasks, struct rows *rows)
+static uint64_t read_rows(const uint8_t *at, const struct layout *layout,
+                          const struct tasks *tasks, struct rows *rows)
 {
     uint32_t before = 0;
 
@@ -131,13 +166,13 @@ static uint64_t read_rows(const uint8_t *at, const struct tasks *tasks, struct r
         uint32_t order = (uint32_t)place << 8 | semaphore; /* at least 1 in a good row */
 
         if (place >= tasks->n)
-            return verdict(7, row_at(tasks->n, r) + PLACE_AT);
+            return verdict(7, row_at(layout, tasks->n, r) + PLACE_AT);
         if (semaphore < 1 || semaphore > MOST_SEMAPHORES)
-            return verdict(7, row_at(tasks->n, r) + SEMAPHORE_AT);
+            return verdict(7, row_at(layout, tasks->n, r) + SEMAPHORE_AT);
         if (length < 1 || length > tasks->C[place])
-            return verdict(7, row_at(tasks->n, r) + LENGTH_AT);
+            return verdict(7, row_at(layout, tasks->n, r) + LENGTH_AT);
         if (order <= before)
-            return verdict(7, row_at(tasks->n, r));
+            return verdict(7, row_at(layout, tasks->n, r));
         before = order;
         rows->place[r] = place;
         rows->semaphore[r] = semaphore;
@@ -152,14 +187,15 @@ static uint64_t read_rows(const uint8_t *at, const struct tasks *tasks, struct r
 static uint64_t read_table(const uint8_t *table, size_t length, struct tasks *tasks,
                            struct rows *rows)
 {
-    uint64_t result = read_header(table, length, &tasks->n, &rows->m);
+    struct layout layout;
+    uint64_t result = read_header(table, length, &layout, &tasks->n, &rows->m);
 
     if (result)
         return result;
-    result = read_tasks(table + task_at(0), tasks);
+    result = read_tasks(table + task_at(&layout, 0), &layout, tasks);
     if (result)
         return result;
-    return read_rows(table + row_at(tasks->n, 0), tasks, rows);
+    return read_rows(table + row_at(&layout, tasks->n, 0), &layout, tasks, rows);
 }
 
 #endif

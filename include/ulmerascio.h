@@ -18,34 +18,42 @@
 extern "C" {
 #endif
 
-/* Limits of version 1 of the table's form. */
+/* Versions 1 and 2 of the table's form are read. The version, byte 0, decides the size s of a
+ * task's record: 17 bytes in version 1, whose records have one jitter J, and 21 in version 2, whose
+ * records have an earliest and a latest delay in place of J (document 02, L4). A version 1 table is
+ * read as one with earliest delay 0 and latest delay J.
+ *
+ * Limits of both versions; the longest table of version 1 has 933 bytes. */
 #define ULMERASCIO_MOST_TASKS 32
-#define ULMERASCIO_LONGEST_TABLE 933
+#define ULMERASCIO_LONGEST_TABLE 1061
 
 /* Why a table was refused. They are tested in this order, except that 5 and 6 take turns record
  * by record; the first that applies is given, and only when it applies. */
 enum ulmerascio_refusal_number {
     ULMERASCIO_REFUSED_SHORT = 1,    /* fewer than 5 bytes */
-    ULMERASCIO_REFUSED_VERSION = 2,  /* byte 0 is not 1 */
+    ULMERASCIO_REFUSED_VERSION = 2,  /* byte 0 is neither 1 nor 2 */
     ULMERASCIO_REFUSED_COUNTS = 3,   /* n is not 1 to 32, or m is not 0 to 64 */
-    ULMERASCIO_REFUSED_LENGTH = 4,   /* stated length, table_len and 5 + 17n + 6m are not all
+    ULMERASCIO_REFUSED_LENGTH = 4,   /* stated length, table_len and 5 + sn + 6m are not all
                                       * equal */
-    ULMERASCIO_REFUSED_NUMBERS = 5,  /* T, C, D or J out of range */
+    ULMERASCIO_REFUSED_NUMBERS = 5,  /* T, C, D, J or a delay out of range, or the earliest delay
+                                      * above the latest */
     ULMERASCIO_REFUSED_PRIORITY = 6, /* priority 0, or not below the record before */
     ULMERASCIO_REFUSED_ROW = 7,      /* a section row breaks a rule */
     ULMERASCIO_REFUSED_SLICES = 8,   /* a slice has fewer than n words */
-    ULMERASCIO_REFUSED_NOT_PLAYABLE = 9 /* given by ulmerascio_play alone: some jitter is not 0,
-                                      * or there is a row */
+    ULMERASCIO_REFUSED_NOT_PLAYABLE = 9 /* given by ulmerascio_play alone: some jitter or delay is
+                                      * not 0, or there is a row */
 };
 
 /* Where it was refused. The place of refusals 3, 5, 6 and 7 is the offset, from the table's first
  * byte, at which the first faulty field begins; that of the others is 0. Record i, counted from 0,
- * begins at t = 5 + 17i, and row k at r = 5 + 17n + 6k.
+ * begins at t = 5 + si, and row k at r = 5 + sn + 6k, where s is 17 or 21 by the version.
  *
  *     number        place
  *     1, 2, 4       0
  *     3             3, where n stands; or 4, where m stands, if only m is wrong
- *     5             t + 1 for T, t + 5 for C, t + 9 for D, t + 13 for J, tested in this order
+ *     5             t + 1 for T, t + 5 for C, t + 9 for D, t + 13 for J or for the earliest delay,
+ *                   t + 17 for the latest, tested in this order; an earliest delay that is in
+ *                   range but above the latest is a fault of the latest
  *     6             t, where the priority stands; it is tested after the numbers of its record
  *     7             r for the task's place, r + 1 for the semaphore, r + 2 for the length, tested
  *                   in this order; then r if the row does not rise above the one before
@@ -82,9 +90,9 @@ uint64_t ulmerascio_analyse(const uint8_t *table, size_t table_len,
  * tasks are released at tick 0 and then every T, each job takes its full cost, and tick after
  * tick the most urgent task that has work is served; late jobs queue.
  *
- * Refusals 1 to 8 and their places are as above, 8 for its one slice; then a table with any
- * jitter or row is refused with 9. The verdict is packed as above, with codes 1 to 9 for a
- * refusal.
+ * Refusals 1 to 8 and their places are as above, 8 for its one slice; then a table with any row,
+ * or with a jitter or delay that is not 0, even if it is constant, is refused with 9. The verdict
+ * is packed as above, with codes 1 to 9 for a refusal.
  *
  * If the table is not refused, words 0 to n - 1 of answers get the number of ticks from 0 to the
  * end of each task's first job, 0 where that is past its deadline; later words stay. Verdict and

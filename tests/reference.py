@@ -5,7 +5,8 @@ It shares no code and no idea of a quick way with the library: it reads the byte
 as document 01 lays them out, looks for each task's answer by search, and plays
 runs tick by tick. The engine of document 02, L1, is played from event to event, and
 knows nothing of the equation. Sentences in double quotation marks are document 01's,
-or L1's where the engine is spoken of, and L3's where the places of refusals are.
+or L1's where the engine is spoken of, L3's where the places of refusals are, and L4's
+where version 2 or delays are.
 
 Needs Python 3.7 or later and nothing else.
 """
@@ -17,34 +18,40 @@ import os
 import sys
 
 # ---------------------------------------------------------------------------
-# The table's bytes: "house form, version 1"
+# The table's bytes: "house form", version 1 and version 2
 # ---------------------------------------------------------------------------
 
-VERSION = 1
 HEADER_BYTES = 5
-TASK_BYTES = 17
 ROW_BYTES = 6
 # Where n and m stand.
 TASK_COUNT_BYTE = 3
 ROW_COUNT_BYTE = 4
-# Where each field stands in its record, in the order tested: "taken as T, C, D, J, priority";
-# and in its row: "place, semaphore, length, then row order (at the row's first byte)".
-TASK_FIELDS = {"period": 1, "cost": 5, "deadline": 9, "jitter": 13, "priority": 0}
-ROW_FIELDS = {"place": 0, "semaphore": 1, "length": 2, "order": 0}
 MOST_TASKS = 32
 MOST_ROWS = 64
+
+# What the version decides: a record's bytes, the most tasks, and where each field stands in its
+# record. The fields are in the order tested: "taken as T, C, D, J, priority"; version 2 has
+# "earliest and latest delay in place of J". The one delay of version 1 is the latest: its tables
+# "read with earliest 0".
+Layout = collections.namedtuple("Layout", "task_bytes most_tasks fields")
+LAYOUTS = {
+    1: Layout(17, MOST_TASKS, {"period": 1, "cost": 5, "deadline": 9, "latest": 13,
+                               "priority": 0}),
+    2: Layout(21, MOST_TASKS, {"period": 1, "cost": 5, "deadline": 9, "earliest": 13,
+                               "latest": 17, "priority": 0}),
+}
+# The same for a row: "place, semaphore, length, then row order (at the row's first byte)".
+ROW_FIELDS = {"place": 0, "semaphore": 1, "length": 2, "order": 0}
 GREATEST_TICKS = 1000000
 GREATEST_PRIORITY = 255
 GREATEST_SEMAPHORE = 16
 GREATEST_WORD = 2 ** 32 - 1
-LONGEST_TABLE = HEADER_BYTES + TASK_BYTES * MOST_TASKS + ROW_BYTES * MOST_ROWS
-# "The program takes at most one byte more than the longest table, so 934 here".
-MOST_BYTES_TAKEN = LONGEST_TABLE + 1
 # Every lent word holds this before a call, so that a word that stays can be seen to stay.
 FILLER = 0xA5A5A5A5
 LONGEST_SLICE = 40
 
-Task = collections.namedtuple("Task", "priority period cost deadline jitter")
+# The fields as they follow each other in a record.
+Task = collections.namedtuple("Task", "priority period cost deadline earliest latest")
 Row = collections.namedtuple("Row", "place semaphore length")
 Outcome = collections.namedtuple("Outcome", "response rounds")
 
@@ -68,54 +75,75 @@ def big_endian(data):
     return int.from_bytes(data, "big")
 
 
-def table_length(task_count, row_count):
-    # "The length is 5 + 17n + 6m".
-    return HEADER_BYTES + TASK_BYTES * task_count + ROW_BYTES * row_count
+def table_length(layout, task_count, row_count):
+    # "The length is 5 + 17n + 6m"; of version 2: "Its length is 5 + 21n + 6m."
+    return HEADER_BYTES + layout.task_bytes * task_count + ROW_BYTES * row_count
 
 
-def task_byte(number, field):
+def longest_table(version):
+    layout = LAYOUTS[version]
+    return table_length(layout, layout.most_tasks, MOST_ROWS)
+
+
+# "The program takes at most one byte more than the longest table".
+MOST_BYTES_TAKEN = max(longest_table(version) for version in LAYOUTS) + 1
+
+
+def task_byte(layout, number, field):
     """The byte, counted from the table's first, at which a field of a record begins."""
-    return HEADER_BYTES + TASK_BYTES * number + TASK_FIELDS[field]
+    return HEADER_BYTES + layout.task_bytes * number + layout.fields[field]
 
 
-def row_byte(task_count, number, field):
-    return HEADER_BYTES + TASK_BYTES * task_count + ROW_BYTES * number + ROW_FIELDS[field]
+def row_byte(layout, task_count, number, field):
+    return table_length(layout, task_count, number) + ROW_FIELDS[field]
 
 
-def read_task(data, number):
+def number_fields(layout):
+    """The fields of 4 bytes, as they follow each other in a record."""
+    return [field for field in Task._fields[1:] if field in layout.fields]
+
+
+def read_task(data, layout, number):
     # "priority (1 byte), period T, cost C, deadline D, jitter J (4 bytes each)".
-    starts = [task_byte(number, field) for field in Task._fields[1:]]
-    numbers = [big_endian(data[start:start + 4]) for start in starts]
-    return Task(data[task_byte(number, "priority")], *numbers)
+    starts = {field: task_byte(layout, number, field) for field in number_fields(layout)}
+    numbers = {field: big_endian(data[start:start + 4]) for field, start in starts.items()}
+    # "Version 1 tables read with earliest 0".
+    numbers.setdefault("earliest", 0)
+    return Task(data[task_byte(layout, number, "priority")], **numbers)
 
 
-def read_row(data, task_count, number):
+def read_row(data, layout, task_count, number):
     # "task place (1), semaphore (1), longest section (4)".
-    place, semaphore, length = (row_byte(task_count, number, field) for field in Row._fields)
+    place, semaphore, length = (row_byte(layout, task_count, number, field)
+                                for field in Row._fields)
     return Row(data[place], data[semaphore], big_endian(data[length:length + 4]))
 
 
 def check_header(data):
-    """Refusals 1 to 4; gives n and m."""
+    """Refusals 1 to 4; gives the layout, n and m."""
     refuse_when(len(data) < HEADER_BYTES, 1)
-    refuse_when(data[0] != VERSION, 2)
+    refuse_when(data[0] not in LAYOUTS, 2)
+    layout = LAYOUTS[data[0]]
     task_count, row_count = data[TASK_COUNT_BYTE], data[ROW_COUNT_BYTE]
     # "Refusal 3 points at byte 3, or 4 if only m is wrong."
-    refuse_when(not 1 <= task_count <= MOST_TASKS, 3, TASK_COUNT_BYTE)
+    refuse_when(not 1 <= task_count <= layout.most_tasks, 3, TASK_COUNT_BYTE)
     refuse_when(row_count > MOST_ROWS, 3, ROW_COUNT_BYTE)
-    lengths = {big_endian(data[1:3]), len(data), table_length(task_count, row_count)}
+    lengths = {big_endian(data[1:3]), len(data), table_length(layout, task_count, row_count)}
     refuse_when(len(lengths) != 1, 4)
-    return task_count, row_count
+    return layout, task_count, row_count
 
 
 def task_rules(task, before):
     """For each field of a record, in the order tested: the refusal where it is faulty, and whether
-    it is right."""
+    it is right. An earliest delay that was not read is 0, and right."""
     # "T and C are 1 to 1,000,000. D is 1 to T. J is 0 to 1,000,000."
     yield "period", 5, 1 <= task.period <= GREATEST_TICKS
     yield "cost", 5, 1 <= task.cost <= GREATEST_TICKS
     yield "deadline", 5, 1 <= task.deadline <= task.period
-    yield "jitter", 5, 0 <= task.jitter <= GREATEST_TICKS
+    # "earliest at most latest, both at most 1,000,000, else refusal 5"; "a faulty delay points at
+    # the earliest if that is out of range, else at the latest".
+    yield "earliest", 5, 0 <= task.earliest <= GREATEST_TICKS
+    yield "latest", 5, task.earliest <= task.latest <= GREATEST_TICKS
     # "Priorities are 1 to 255 and strictly fall from each record to the next."
     falls = before is None or task.priority < before.priority
     yield "priority", 6, 1 <= task.priority <= GREATEST_PRIORITY and falls
@@ -133,32 +161,33 @@ def row_rules(row, before, tasks):
     yield "order", 7, before is None or row[:2] > before[:2]
 
 
-def check_tasks(tasks):
+def check_tasks(layout, tasks):
     # "Task records are taken in order, each tested for 5 and then 6"; the place of a refusal is
     # "the byte offset of the first faulty field".
     before = None
     for number, task in enumerate(tasks):
         for field, refusal, right in task_rules(task, before):
-            refuse_when(not right, refusal, task_byte(number, field))
+            if not right:
+                raise Refused(refusal, task_byte(layout, number, field))
         before = task
 
 
-def check_rows(rows, tasks):
+def check_rows(layout, rows, tasks):
     # "then the rows in order for 7".
     before = None
     for number, row in enumerate(rows):
         for field, refusal, right in row_rules(row, before, tasks):
-            refuse_when(not right, refusal, row_byte(len(tasks), number, field))
+            refuse_when(not right, refusal, row_byte(layout, len(tasks), number, field))
         before = row
 
 
 def read_table(data, answers_length, rounds_length):
     """Gives the tasks and the rows, or raises the first refusal that applies."""
-    task_count, row_count = check_header(data)
-    tasks = [read_task(data, number) for number in range(task_count)]
-    check_tasks(tasks)
-    rows = [read_row(data, task_count, number) for number in range(row_count)]
-    check_rows(rows, tasks)
+    layout, task_count, row_count = check_header(data)
+    tasks = [read_task(data, layout, number) for number in range(task_count)]
+    check_tasks(layout, tasks)
+    rows = [read_row(data, layout, task_count, number) for number in range(row_count)]
+    check_rows(layout, rows, tasks)
     # "an answer slice has fewer than n words"
     refuse_when(min(answers_length, rounds_length) < task_count, 8)
     return tasks, rows
@@ -193,10 +222,12 @@ def rounded_up(number, divisor):
 
 def demand(base, urgent_tasks, window):
     # "demand(i, w) is C_i + B_i plus, over every more urgent j, C_j times (w + J_j) / T_j
-    # rounded up"; the base is C_i + B_i.
+    # rounded up", with "latest minus earliest delay inside the interference" for J_j; the base is
+    # C_i + B_i.
     total = base
     for urgent in urgent_tasks:
-        total += urgent.cost * rounded_up(window + urgent.jitter, urgent.period)
+        spread = urgent.latest - urgent.earliest
+        total += urgent.cost * rounded_up(window + spread, urgent.period)
     return total
 
 
@@ -225,11 +256,12 @@ def skipping_search(base, urgent_tasks, last):
 
 
 def response_of(task, window):
-    # "Its answer is w + J_i if such a w exists and w + J_i <= D_i; else 0." A solution above
-    # D_i gives 0 as none does, so that both searches may end at D_i.
-    if window is None or window + task.jitter > task.deadline:
+    # "Its answer is w + J_i if such a w exists and w + J_i <= D_i; else 0." For J_i stands the
+    # latest delay: "every test against the deadline and the bound on rounds use the latest". A
+    # solution above D_i gives 0 as none does, so that both searches may end at D_i.
+    if window is None or window + task.latest > task.deadline:
         return 0
-    return window + task.jitter
+    return window + task.latest
 
 
 def count_rounds(task, base, urgent_tasks):
@@ -237,7 +269,7 @@ def count_rounds(task, base, urgent_tasks):
     # x_k = x_(k-1) or x_k + J_i > D_i."
     rounds, before = 1, base
     after = demand(base, urgent_tasks, before)
-    while after != before and after + task.jitter <= task.deadline:
+    while after != before and after + task.latest <= task.deadline:
         rounds, before = rounds + 1, after
         after = demand(base, urgent_tasks, before)
     return rounds
@@ -287,8 +319,8 @@ def text_of(data, answers_length=MOST_TASKS, rounds_length=MOST_TASKS):
 # Writing tables
 # ---------------------------------------------------------------------------
 
-def task_bytes(task):
-    numbers = (task.period, task.cost, task.deadline, task.jitter)
+def task_bytes(layout, task):
+    numbers = (getattr(task, field) for field in number_fields(layout))
     return bytes([task.priority]) + b"".join(number.to_bytes(4, "big") for number in numbers)
 
 
@@ -297,15 +329,17 @@ def row_bytes(row):
 
 
 class Draft:
-    """A table being written, which may be given faults before its bytes are taken."""
+    """A table being written, which may be given faults before its bytes are taken. Its records
+    stay in the layout of the version that it began with."""
 
-    def __init__(self, tasks, rows=()):
-        self.version = VERSION
+    def __init__(self, tasks, rows=(), version=1):
+        self.version = version
+        self.layout = LAYOUTS[version]
         self.tasks = list(tasks)
         self.rows = list(rows)
         self.task_count = len(self.tasks)
         self.row_count = len(self.rows)
-        self.stated_length = table_length(self.task_count, self.row_count)
+        self.stated_length = table_length(self.layout, self.task_count, self.row_count)
         self.lent_length = self.stated_length
 
     def change_task(self, number, **changes):
@@ -317,15 +351,16 @@ class Draft:
     def data(self):
         written = (bytes([self.version]) + self.stated_length.to_bytes(2, "big")
                    + bytes([self.task_count, self.row_count])
-                   + b"".join(task_bytes(task) for task in self.tasks)
+                   + b"".join(task_bytes(self.layout, task) for task in self.tasks)
                    + b"".join(row_bytes(row) for row in self.rows))
         return written[:self.lent_length].ljust(self.lent_length, b"\x00")
 
 
 def listed(*entries):
-    """Tasks from (T, C, D) or (T, C, D, J), the priorities falling down the list."""
+    """Tasks from (T, C, D), (T, C, D, J) or (T, C, D, earliest, latest), the priorities falling
+    down the list."""
     count = len(entries)
-    return [Task(count - place, entry[0], entry[1], entry[2], (entry + (0,))[3])
+    return [Task(count - place, *entry[:3], *((0, 0) + entry[3:])[-2:])
             for place, entry in enumerate(entries)]
 
 
@@ -417,8 +452,9 @@ def order_edges():
     yield draft.data(), "refused 4 at 0\n"
     draft.row_count = 65
     yield draft.data(), "refused 3 at 4\n"
+    # Version 2 has a rule for m too.
     draft.version = 2
-    yield draft.data(), "refused 2 at 0\n"
+    yield draft.data(), "refused 3 at 4\n"
     draft.lent_length = 4
     yield draft.data(), "refused 1 at 0\n"
 
@@ -566,14 +602,14 @@ def slices_for(generator, count):
     return generator.pick([(short, enough), (enough, short), (short, short)])
 
 
-def made_entry(generator, tasks, rows):
-    return Entry(Draft(tasks, rows).data(), *slices_for(generator, len(tasks)))
+def made_entry(generator, tasks, rows, version=1):
+    return Entry(Draft(tasks, rows, version).data(), *slices_for(generator, len(tasks)))
 
 
-def answered_entry(generator, tasks, rows):
+def answered_entry(generator, tasks, rows, version=1):
     """With slices that are long enough."""
     lengths = [generator.pick([len(tasks), LONGEST_SLICE]) for _ in range(2)]
-    return Entry(Draft(tasks, rows).data(), *lengths)
+    return Entry(Draft(tasks, rows, version).data(), *lengths)
 
 
 def made_priorities(generator, count):
@@ -597,7 +633,23 @@ def made_jitter(generator, period):
     return generator.between(0, GREATEST_TICKS)
 
 
-def made_tasks(generator, count, scale):
+def made_latest(generator, deadline):
+    """Mostly far within the deadline, so that the task may be in time."""
+    within = [generator.between(0, deadline // part) for part in (1, 2, 4, 8, 16, 16)]
+    beyond = [generator.between(deadline, 2 * deadline), generator.between(0, GREATEST_TICKS)]
+    return generator.pick(generator.pick([within, within, within, within, [0], [0], beyond]))
+
+
+def made_delays(generator, period, deadline, version):
+    """The earliest and the latest: one delay, a constant one, or a span."""
+    if version == 1:
+        return 0, made_jitter(generator, period)
+    latest = min(made_latest(generator, deadline), GREATEST_TICKS)
+    return generator.pick([0, latest, generator.between(0, latest),
+                           generator.between(latest // 2, latest)]), latest
+
+
+def made_tasks(generator, count, scale, version=1):
     """Costs are drawn so that light, full and overfull tables all turn up."""
     periods = [generator.between(1, scale) for _ in range(count)]
     if generator.chance(2, 3):
@@ -608,8 +660,9 @@ def made_tasks(generator, count, scale):
     for priority, period in zip(priorities, periods):
         most = max(1, period * load // (50 * count))
         cost = generator.between(1, min(most, GREATEST_TICKS))
-        tasks.append(Task(priority, period, cost, made_deadline(generator, period),
-                          made_jitter(generator, period)))
+        deadline = made_deadline(generator, period)
+        delays = made_delays(generator, period, deadline, version)
+        tasks.append(Task(priority, period, cost, deadline, *delays))
     return tasks
 
 
@@ -626,31 +679,31 @@ def made_section(generator, cost):
     return generator.pick([1, cost, generator.between(1, cost), generator.between(1, cost)])
 
 
-def made_table(generator, count, row_count, scale):
+def made_table(generator, count, row_count, scale, version=1):
     """A table that needs no more than MOST_LOADS loads."""
     while True:
-        tasks = made_tasks(generator, count, scale)
+        tasks = made_tasks(generator, count, scale, version)
         rows = made_rows(generator, tasks, row_count)
         if loads_of(tasks, rows) <= MOST_LOADS:
             return tasks, rows
 
 
-def any_small_table(generator):
+def any_small_table(generator, version=1):
     count = generator.between(1, 6)
     row_count = generator.pick([0, 0, generator.between(0, min(6, 3 * count))])
     scale = generator.pick([5, 12, 40, 300, 3000, GREATEST_TICKS])
-    return made_table(generator, count, row_count, scale)
+    return made_table(generator, count, row_count, scale, version)
 
 
-def small_entries(generator, how_many):
+def small_entries(generator, how_many, version=1):
     for _ in range(how_many):
-        yield made_entry(generator, *any_small_table(generator))
+        yield made_entry(generator, *any_small_table(generator, version), version)
 
 
-def deadline_entries(generator, how_many):
+def deadline_entries(generator, how_many, version=1):
     """Deadlines exactly at the answer, one tick below it and one above it."""
     for _ in range(how_many):
-        tasks, rows = any_small_table(generator)
+        tasks, rows = any_small_table(generator, version)
         for place, task in enumerate(tasks):
             relaxed = task._replace(deadline=task.period)
             response = outcome_of(relaxed, tasks, rows).response
@@ -658,7 +711,7 @@ def deadline_entries(generator, how_many):
                 wanted = response + generator.between(-1, 1)
                 tasks[place] = task._replace(deadline=max(1, min(wanted, task.period)))
         if loads_of(tasks, rows) <= MOST_LOADS:
-            yield made_entry(generator, tasks, rows)
+            yield made_entry(generator, tasks, rows, version)
 
 
 def size_entries(generator):
@@ -688,7 +741,14 @@ def many_round_entries(generator, how_many):
             yield made_entry(generator, tasks, [])
 
 
-def limit_entries(generator, how_many):
+def limit_delays(generator, version):
+    if version == 1:
+        return 0, generator.pick([0, 0, 0, 1, GREATEST_TICKS - 1, GREATEST_TICKS])
+    latest = generator.pick([1, 2, GREATEST_TICKS - 1, GREATEST_TICKS])
+    return generator.pick([0, latest - 1, latest]), latest
+
+
+def limit_entries(generator, how_many, version=1):
     """Numbers at both ends of their ranges."""
     ends = [1, 1, 2, GREATEST_TICKS - 1, GREATEST_TICKS, GREATEST_TICKS]
     while how_many:
@@ -697,13 +757,13 @@ def limit_entries(generator, how_many):
         for priority in made_priorities(generator, count):
             period = generator.pick(ends)
             deadline = generator.pick([1, period, max(1, period - 1)])
-            jitter = generator.pick([0, 0, 0, 1, GREATEST_TICKS - 1, GREATEST_TICKS])
-            tasks.append(Task(priority, period, generator.pick(ends), deadline, jitter))
+            delays = limit_delays(generator, version)
+            tasks.append(Task(priority, period, generator.pick(ends), deadline, *delays))
         row_count = generator.pick([0, generator.between(0, 3 * count)])
         rows = made_rows(generator, tasks, row_count)
         if loads_of(tasks, rows) <= MOST_LOADS:
             how_many -= 1
-            yield made_entry(generator, tasks, rows)
+            yield made_entry(generator, tasks, rows, version)
 
 
 def greatest_tables():
@@ -711,11 +771,11 @@ def greatest_tables():
     top, end = GREATEST_TICKS, GREATEST_PRIORITY
     for period in (1, 2, top):
         for jitter in (0, top):
-            tasks = [Task(end - place, period, top, period, jitter)
+            tasks = [Task(end - place, period, top, period, 0, jitter)
                      for place in range(MOST_TASKS - 1)]
-            tasks.append(Task(1, top, 1, top, 0))
+            tasks.append(Task(1, top, 1, top, 0, 0))
             yield Draft(tasks).data()
-    tasks = [Task(end - place, top, top, top, 0) for place in range(MOST_TASKS)]
+    tasks = [Task(end - place, top, top, top, 0, 0) for place in range(MOST_TASKS)]
     rows = [Row(place, semaphore, top) for place in range(4)
             for semaphore in range(1, GREATEST_SEMAPHORE + 1)]
     yield Draft(tasks, rows).data()
@@ -759,25 +819,34 @@ def slow_tables():
 # The turn is where the check stands among all: its stage, the record or row, and the field.
 Asked = collections.namedtuple("Asked", "number place turn")
 
-ASKED_BY_HEADER = {"version": Asked(2, 0, (2,)),
-                   "task_count": Asked(3, TASK_COUNT_BYTE, (3, TASK_COUNT_BYTE)),
-                   "row_count": Asked(3, ROW_COUNT_BYTE, (3, ROW_COUNT_BYTE))}
+ASKED_BY_VERSION = Asked(2, 0, (2,))
+ASKED_BY_COUNT = {"task_count": Asked(3, TASK_COUNT_BYTE, (3, TASK_COUNT_BYTE)),
+                  "row_count": Asked(3, ROW_COUNT_BYTE, (3, ROW_COUNT_BYTE))}
+ASKED_BY_LENGTH = Asked(4, 0, (4,))
 
 
-def asked_by_task(number, field):
-    turn = 5, number, list(TASK_FIELDS).index(field)
-    return Asked(6 if field == "priority" else 5, task_byte(number, field), turn)
+def asked_by_task(draft, number, field):
+    turn = 5, number, list(draft.layout.fields).index(field)
+    return Asked(6 if field == "priority" else 5, task_byte(draft.layout, number, field), turn)
 
 
 def asked_by_row(draft, number, field):
     turn = 7, number, list(ROW_FIELDS).index(field)
-    return Asked(7, row_byte(len(draft.tasks), number, field), turn)
+    return Asked(7, row_byte(draft.layout, len(draft.tasks), number, field), turn)
 
 
-def header_fault(field, value):
+def version_fault(version):
+    """The records stay as they are: under a version with other records the length is wrong."""
+    def spoil(draft, _number):
+        draft.version = version
+        return ASKED_BY_LENGTH if version in LAYOUTS else ASKED_BY_VERSION
+    return spoil
+
+
+def count_fault(field, value):
     def spoil(draft, _number):
         setattr(draft, field, value)
-        return ASKED_BY_HEADER[field]
+        return ASKED_BY_COUNT[field]
     return spoil
 
 
@@ -788,7 +857,7 @@ def length_fault(stated=0, lent=0, task_count=0, row_count=0):
         draft.task_count += task_count
         draft.row_count += row_count
         in_range = 1 <= draft.task_count <= MOST_TASKS and 0 <= draft.row_count <= MOST_ROWS
-        return Asked(4, 0, (4,)) if in_range and draft.lent_length >= HEADER_BYTES else None
+        return ASKED_BY_LENGTH if in_range and draft.lent_length >= HEADER_BYTES else None
     return spoil
 
 
@@ -805,8 +874,17 @@ def number_fault(field, value):
             return None
         wanted = value(draft.tasks[number])
         draft.change_task(number, **{field: max(0, min(wanted, GREATEST_WORD))})
-        return asked_by_task(number, field)
+        return asked_by_task(draft, number, field)
     return spoil
+
+
+def crossed_delays(draft, number):
+    """Both delays are in range, unless the earliest was not before, and the latest is below."""
+    if number >= len(draft.tasks):
+        return None
+    earliest = max(1, draft.tasks[number].earliest)
+    draft.change_task(number, earliest=earliest, latest=earliest - 1)
+    return asked_by_task(draft, number, "latest")
 
 
 def period_below_deadline(draft, number):
@@ -815,7 +893,7 @@ def period_below_deadline(draft, number):
         return None
     period = max(0, draft.tasks[number].deadline - 1)
     draft.change_task(number, period=period)
-    return asked_by_task(number, "deadline" if period else "period")
+    return asked_by_task(draft, number, "deadline" if period else "period")
 
 
 def priority_fault(value):
@@ -827,7 +905,7 @@ def priority_fault(value):
         if priority is None or priority > GREATEST_PRIORITY:
             return None
         draft.change_task(number, priority=priority)
-        return asked_by_task(number, "priority")
+        return asked_by_task(draft, number, "priority")
     return spoil
 
 
@@ -872,8 +950,10 @@ COST_FAULTS = [number_fault("cost", lambda task: 0),
 DEADLINE_FAULTS = [number_fault("deadline", lambda task: 0),
                    number_fault("deadline", lambda task: task.period + 1),
                    number_fault("deadline", lambda task: GREATEST_WORD)]
-JITTER_FAULTS = [number_fault("jitter", lambda task: GREATEST_TICKS + 1),
-                 number_fault("jitter", lambda task: GREATEST_WORD)]
+EARLIEST_FAULTS = [number_fault("earliest", lambda task: GREATEST_TICKS + 1),
+                   number_fault("earliest", lambda task: GREATEST_WORD)]
+LATEST_FAULTS = [number_fault("latest", lambda task: GREATEST_TICKS + 1),
+                 number_fault("latest", lambda task: GREATEST_WORD)]
 PRIORITY_FAULTS = [priority_fault(lambda before: 0),
                    priority_fault(lambda before: before),
                    priority_fault(lambda before: None if before is None else before + 1),
@@ -890,30 +970,45 @@ LENGTH_FAULTS = [row_fault(length=lambda draft, row: 0),
 PLACE_AND_LENGTH = row_fault(place=lambda draft, row: len(draft.tasks),
                              length=lambda draft, row: 0)
 
-FAULTS_BY_REFUSAL = [
-    [cut_fault(0), cut_fault(1), cut_fault(4)],
-    [header_fault("version", value) for value in (0, 2, 255)],
-    [header_fault("task_count", value) for value in (0, 33, 255)]
-    + [header_fault("row_count", value) for value in (65, 255)],
-    [length_fault(stated=1), length_fault(stated=-1), length_fault(stated=256),
-     length_fault(lent=1), length_fault(lent=-1), length_fault(lent=17),
-     length_fault(stated=1, lent=1), length_fault(stated=-6, lent=-6),
-     length_fault(task_count=1), length_fault(task_count=-1), length_fault(row_count=1),
-     length_fault(row_count=-1), length_fault(stated=17, task_count=1),
-     length_fault(lent=6, row_count=1), length_fault(lent=-17, task_count=-1)],
-    PERIOD_FAULTS + [period_below_deadline] + COST_FAULTS + DEADLINE_FAULTS + JITTER_FAULTS,
-    PRIORITY_FAULTS,
-    PLACE_FAULTS + SEMAPHORE_FAULTS + LENGTH_FAULTS + [PLACE_AND_LENGTH, repeat_row, swap_rows],
-]
+# By version, for each delay that a record has.
+DELAY_FAULTS = {1: [LATEST_FAULTS], 2: [EARLIEST_FAULTS, LATEST_FAULTS + [crossed_delays]]}
+OTHER_VERSIONS = {1: (0, 2, 255), 2: (0, 1, 3, 255)}
+
+
+def length_faults(task_size):
+    return [length_fault(stated=1), length_fault(stated=-1), length_fault(stated=256),
+            length_fault(lent=1), length_fault(lent=-1), length_fault(lent=task_size),
+            length_fault(stated=1, lent=1), length_fault(stated=-6, lent=-6),
+            length_fault(task_count=1), length_fault(task_count=-1), length_fault(row_count=1),
+            length_fault(row_count=-1), length_fault(stated=task_size, task_count=1),
+            length_fault(lent=6, row_count=1), length_fault(lent=-task_size, task_count=-1)]
+
+
+def faults_by_refusal(version):
+    return [
+        [cut_fault(0), cut_fault(1), cut_fault(4)],
+        [version_fault(value) for value in OTHER_VERSIONS[version]],
+        [count_fault("task_count", value) for value in (0, 33, 255)]
+        + [count_fault("row_count", value) for value in (65, 255)],
+        length_faults(LAYOUTS[version].task_bytes),
+        PERIOD_FAULTS + [period_below_deadline] + COST_FAULTS + DEADLINE_FAULTS
+        + list(itertools.chain(*DELAY_FAULTS[version])),
+        PRIORITY_FAULTS,
+        PLACE_FAULTS + SEMAPHORE_FAULTS + LENGTH_FAULTS
+        + [PLACE_AND_LENGTH, repeat_row, swap_rows],
+    ]
+
+
+FAULTS_BY_REFUSAL = {version: faults_by_refusal(version) for version in LAYOUTS}
 
 Spoiled = collections.namedtuple("Spoiled", "entry refusals")
 
 
-def sound_draft(generator):
+def sound_draft(generator, version=1):
     """A table without fault, small enough to spoil and with rows to spoil."""
     count = generator.between(3, 5)
-    tasks, rows = made_table(generator, count, generator.between(3, 6), 60)
-    return Draft(tasks, rows)
+    tasks, rows = made_table(generator, count, generator.between(3, 6), 60, version)
+    return Draft(tasks, rows, version)
 
 
 def spoiled_entry(generator, draft, refusals):
@@ -923,7 +1018,7 @@ def spoiled_entry(generator, draft, refusals):
 
 def one_fault(generator):
     """Every fault in every record and row of a small table."""
-    for fault in itertools.chain(*FAULTS_BY_REFUSAL):
+    for fault in itertools.chain(*FAULTS_BY_REFUSAL[1]):
         for number in range(6):
             draft = sound_draft(generator)
             refusal = fault(draft, number)
@@ -936,10 +1031,10 @@ def can_be_written(draft):
             and draft.lent_length >= 0)
 
 
-def two_faults(generator, how_many):
+def two_faults(generator, how_many, version=1):
     while how_many:
-        draft = sound_draft(generator)
-        faults = [generator.pick(generator.pick(FAULTS_BY_REFUSAL)) for _ in range(2)]
+        draft = sound_draft(generator, version)
+        faults = [generator.pick(generator.pick(FAULTS_BY_REFUSAL[version])) for _ in range(2)]
         refusals = [fault(draft, generator.below(5)) for fault in faults]
         if None not in refusals and can_be_written(draft):
             how_many -= 1
@@ -951,52 +1046,53 @@ def alternating_faults(generator):
     for first in range(4):
         for second in range(4):
             draft = Draft(*made_table(generator, 4, 2, 60))
-            refusals = [generator.pick(FAULTS_BY_REFUSAL[4])(draft, first),
+            refusals = [generator.pick(FAULTS_BY_REFUSAL[1][4])(draft, first),
                         PRIORITY_FAULTS[second and generator.below(2)](draft, second)]
             yield spoiled_entry(generator, draft, refusals)
 
 
-def earliest(refusals):
+def first_asked(refusals):
     """The first of these in the order of the checks."""
     return min(refusals, key=lambda asked: asked.turn)
 
 
-def cut_tables():
-    """Every beginning of two worked tables, and again with the stated length put right."""
-    for whole in (Draft(listed(*FIFTH)).data(),
-                  Draft(listed(*SECTIONS), listed_rows(*SECTION_ROWS)).data()):
-        for length in range(len(whole)):
-            yield whole[:length]
-            if length >= HEADER_BYTES and length % 3 == 0:
-                yield whole[:1] + length.to_bytes(2, "big") + whole[3:length]
+def cut_tables(whole):
+    """Every beginning of a table, and again with the stated length put right."""
+    for length in range(len(whole)):
+        yield whole[:length]
+        if length >= HEADER_BYTES and length % 3 == 0:
+            yield with_stated_length(whole[:length])
 
 
-def changed_byte_tables():
-    """One byte of a table with rows set to 0, raised by one, lowered by one, or set to 255."""
-    whole = Draft(listed(*SECTIONS), listed_rows(*SECTION_ROWS)).data()
+def with_stated_length(data):
+    return data[:1] + len(data).to_bytes(2, "big") + data[3:]
+
+
+def changed_byte_tables(whole):
+    """One byte of a table set to 0, raised by one, lowered by one, or set to 255."""
     for at, old in enumerate(whole):
         for new in sorted({0, (old + 1) % 256, (old - 1) % 256, 255} - {old}):
             yield whole[:at] + bytes([new]) + whole[at + 1:]
 
 
-def junk_tables(generator, how_many):
+def junk_tables(generator, how_many, version=1):
     """Junk throughout; junk after a right version; junk records under a right header."""
     for _ in range(how_many):
         yield generator.bytes(generator.below(60))
-        yield bytes([VERSION]) + generator.bytes(generator.below(60))
+        yield bytes([version]) + generator.bytes(generator.below(60))
         counts = generator.between(1, 3), generator.between(0, 3)
-        length = table_length(*counts)
-        header = bytes([VERSION]) + length.to_bytes(2, "big") + bytes(counts)
+        length = table_length(LAYOUTS[version], *counts)
+        header = bytes([version]) + length.to_bytes(2, "big") + bytes(counts)
         yield header + generator.bytes(length - HEADER_BYTES)
 
 
 def long_tables(generator):
-    """Lengths above 933, the longest table itself among them."""
+    """Lengths above 933, the longest table of version 1 itself among them."""
     largest = Draft(*made_table(generator, MOST_TASKS, MOST_ROWS, 3000)).data()
     yield largest
-    for length in (LONGEST_TABLE + 1, LONGEST_TABLE + 2, 1000, 1500, 4590, 5000):
+    for length in (934, 935, 1000, 1500, 4590, 5000):
         yield largest.ljust(length, b"\x01")
-    yield largest[:1] + MOST_BYTES_TAKEN.to_bytes(2, "big") + largest[3:] + b"\x00"
+    yield with_stated_length(largest + b"\x00")
     thirty_three = Draft(listed(*[(100, 1, 100)] * 33), [Row(0, 1, 1)] * 64)
     yield thirty_three.data()
     yield bytes(1000)
@@ -1034,9 +1130,11 @@ def made_entries(generator):
         yield spoiled.entry
     for spoiled in alternating_faults(generator):
         yield spoiled.entry
-    for data in cut_tables():
-        yield Entry(data, LONGEST_SLICE, LONGEST_SLICE)
-    for data in changed_byte_tables():
+    sections = Draft(listed(*SECTIONS), listed_rows(*SECTION_ROWS)).data()
+    for whole in (Draft(listed(*FIFTH)).data(), sections):
+        for data in cut_tables(whole):
+            yield Entry(data, LONGEST_SLICE, LONGEST_SLICE)
+    for data in changed_byte_tables(sections):
         yield exact_entry(data)
     for data in junk_tables(generator, 70):
         yield Entry(data, *generator.pick([(3, 3), (40, 40), (0, 0)]))
@@ -1049,14 +1147,14 @@ def made_entries(generator):
 # Made tables for the engine: no jitter and no rows, or only just
 # ---------------------------------------------------------------------------
 
-def without_jitter(tasks):
-    return [task._replace(jitter=0) for task in tasks]
+def without_delays(tasks):
+    return [task._replace(earliest=0, latest=0) for task in tasks]
 
 
 def plain_tasks(generator, count, scale):
     """Tasks without jitter that need no more than MOST_LOADS loads without rows."""
     while True:
-        tasks = without_jitter(made_tasks(generator, count, scale))
+        tasks = without_delays(made_tasks(generator, count, scale))
         if loads_of(tasks, []) <= MOST_LOADS:
             return tasks
 
@@ -1143,17 +1241,17 @@ def unplayable_drafts():
     entries = [(100, 2, 100), (90, 3, 80), (80, 4, 80)]
     for jittered in (2, 0):
         draft = Draft(listed(*entries))
-        draft.change_task(jittered, jitter=1)
+        draft.change_task(jittered, latest=1)
         yield draft
     yield Draft(listed(*entries), listed_rows((2, 16, 4)))
     draft = Draft(listed(*entries), listed_rows((0, 1, 1), (1, 1, 1)))
-    draft.change_task(1, jitter=GREATEST_TICKS)
+    draft.change_task(1, latest=GREATEST_TICKS)
     yield draft
     draft = Draft(listed(*entries), listed_rows((2, 16, 5)))
     yield draft
     whole = listed(*[(1000, 1, 1000)] * MOST_TASKS)
     draft = Draft(whole)
-    draft.change_task(MOST_TASKS - 1, jitter=1)
+    draft.change_task(MOST_TASKS - 1, latest=1)
     yield draft
     yield Draft(whole, [Row(place, 1 + half, 1) for place in range(MOST_TASKS)
                         for half in range(2)])
@@ -1195,9 +1293,22 @@ def moved_row(place, semaphore):
 
 
 ORDER_FAULTS = [repeat_row, moved_row(0, -1), moved_row(-1, 0), moved_row(-1, 1)]
-# The faults of each field, in the order tested.
-TASK_FAULTS = [PERIOD_FAULTS, COST_FAULTS, DEADLINE_FAULTS, JITTER_FAULTS, PRIORITY_FAULTS]
+# The faults of each field, in the order tested; those of a record by version.
+TASK_FAULTS = {version: [PERIOD_FAULTS, COST_FAULTS, DEADLINE_FAULTS, *delays, PRIORITY_FAULTS]
+               for version, delays in DELAY_FAULTS.items()}
 ROW_FAULTS = [PLACE_FAULTS, SEMAPHORE_FAULTS, LENGTH_FAULTS, ORDER_FAULTS]
+
+
+def changed_tasks(draft, changes):
+    for number, fields in changes:
+        draft.change_task(number, **fields)
+    return draft.data()
+
+
+def changed_rows(draft, changes):
+    for number, fields in changes:
+        draft.change_row(number, **fields)
+    return draft.data()
 
 
 def place_edges():
@@ -1209,16 +1320,14 @@ def place_edges():
             ([(1, {"period": 0})], "refused 5 at 23\n"),
             ([(1, {"cost": 0})], "refused 5 at 27\n"),
             ([(1, {"deadline": 21})], "refused 5 at 31\n"),
-            ([(1, {"jitter": 1000001})], "refused 5 at 35\n"),
-            ([(3, {"jitter": 1000001})], "refused 5 at 69\n"),
-            ([(1, {"priority": 0, "jitter": 1000001})], "refused 5 at 35\n"),
+            ([(1, {"latest": 1000001})], "refused 5 at 35\n"),
+            ([(3, {"latest": 1000001})], "refused 5 at 69\n"),
+            ([(1, {"priority": 0, "latest": 1000001})], "refused 5 at 35\n"),
             ([(1, {"period": 1000001, "deadline": 0})], "refused 5 at 23\n"),
             ([(1, {"priority": 0}), (2, {"period": 0})], "refused 6 at 22\n"),
-            ([(1, {"jitter": 1000001}), (2, {"priority": 0})], "refused 5 at 35\n")):
+            ([(1, {"latest": 1000001}), (2, {"priority": 0})], "refused 5 at 35\n")):
         draft = Draft(listed(*SECTIONS), listed_rows(*SECTION_ROWS))
-        for number, fields in changes:
-            draft.change_task(number, **fields)
-        yield draft.data(), text
+        yield changed_tasks(draft, changes), text
     for changes, text in (
             ([(0, {"place": 4})], "refused 7 at 73\n"),
             ([(2, {"place": 4})], "refused 7 at 85\n"),
@@ -1232,44 +1341,43 @@ def place_edges():
             ([(2, {"place": 0, "length": 3})], "refused 7 at 87\n"),
             ([(1, {"semaphore": 1}), (2, {"place": 4})], "refused 7 at 79\n")):
         draft = Draft(listed(*SECTIONS), listed_rows(*SECTION_ROWS))
-        for number, fields in changes:
-            draft.change_row(number, **fields)
-        yield draft.data(), text
+        yield changed_rows(draft, changes), text
 
 
-def spoiled_table(generator, count, row_count, *faults):
+def spoiled_table(generator, version, count, row_count, *faults):
     """A table with these faults, made one after the other, each given with the number of its
     record or row; nothing where they fit none of ten tables."""
     for _ in range(10):
-        draft = Draft(*made_table(generator, count, row_count, 60 * count))
+        tasks, rows = made_table(generator, count, row_count, 60 * count, version)
+        draft = Draft(tasks, rows, version)
         refusals = [fault(draft, number) for fault, number in faults]
         if None not in refusals:
             yield spoiled_entry(generator, draft, refusals)
             return
 
 
-def count_drafts():
+def wrong_counts(version):
     """As many records and rows as n and m say, and each length right, but n, m or both out of
-    range; gives the field to be named too."""
+    range."""
     for task_count, row_count, field in (
             (0, 0, "task_count"), (0, 64, "task_count"), (0, 65, "task_count"),
             (33, 0, "task_count"), (33, 64, "task_count"), (33, 65, "task_count"),
             (1, 65, "row_count"), (32, 65, "row_count")):
         tasks = listed(*[(100, 1, 100)] * task_count)
-        yield Draft(tasks, [Row(0, 1, 1)] * row_count), field
+        draft = Draft(tasks, [Row(0, 1, 1)] * row_count, version)
+        yield Spoiled(exact_entry(draft.data()), [ASKED_BY_COUNT[field]])
 
 
 def count_faults(generator):
     """n or m out of range, both, and each with a fault that is tested later."""
-    for draft, field in count_drafts():
-        yield Spoiled(exact_entry(draft.data()), [ASKED_BY_HEADER[field]])
-    wrong_task_counts = [header_fault("task_count", value) for value in (0, 33, 255)]
-    wrong_row_counts = [header_fault("row_count", value) for value in (65, 128, 255)]
+    yield from wrong_counts(1)
+    wrong_task_counts = [count_fault("task_count", value) for value in (0, 33, 255)]
+    wrong_row_counts = [count_fault("row_count", value) for value in (65, 128, 255)]
     for fault in wrong_task_counts + wrong_row_counts:
         for later in (length_fault(lent=1), PERIOD_FAULTS[0], PRIORITY_FAULTS[0], PLACE_FAULTS[0]):
-            yield from spoiled_table(generator, 2, 2, (later, 0), (fault, 0))
+            yield from spoiled_table(generator, 1, 2, 2, (later, 0), (fault, 0))
     for fault, later in itertools.product(wrong_task_counts, wrong_row_counts):
-        yield from spoiled_table(generator, 2, 2, (later, 0), (fault, 0))
+        yield from spoiled_table(generator, 1, 2, 2, (later, 0), (fault, 0))
 
 
 def ends_of(count):
@@ -1277,62 +1385,100 @@ def ends_of(count):
     return sorted({0, count // 2, count - 1}) if count else []
 
 
-def field_faults(generator):
-    """Every fault of every field, in the first, a middle and the last record or row."""
-    for fault in itertools.chain(*TASK_FAULTS, [period_below_deadline]):
+def task_field_faults(generator, version):
+    """Every fault of every field, in the first, a middle and the last record."""
+    for fault in itertools.chain(*TASK_FAULTS[version], [period_below_deadline]):
         count, row_count = generator.between(3, 4), generator.between(0, 4)
         for number in ends_of(count):
-            yield from spoiled_table(generator, count, row_count, (fault, number))
+            yield from spoiled_table(generator, version, count, row_count, (fault, number))
+
+
+def row_field_faults(generator):
+    """The same for a row."""
     for fault in itertools.chain(*ROW_FAULTS):
         count, row_count = generator.between(2, 4), generator.between(3, 4)
         for number in ends_of(row_count):
-            yield from spoiled_table(generator, count, row_count, (fault, number))
-    for fields in TASK_FAULTS + ROW_FAULTS:
-        yield from spoiled_table(generator, 1, 1, (generator.pick(fields), 0))
+            yield from spoiled_table(generator, 1, count, row_count, (fault, number))
 
 
-def neighbour_faults(generator):
-    """Two faulty fields of one record or row, and every field with all that are tested after
-    it. A row is moved first, since that changes its other fields."""
-    for fields in itertools.combinations(TASK_FAULTS, 2):
-        for number in list(range(3)) * 2:
+def single_faults(generator, version):
+    """Every field of the only record, and of the only row."""
+    for fields in TASK_FAULTS[version] + ROW_FAULTS:
+        yield from spoiled_table(generator, version, 1, 1, (generator.pick(fields), 0))
+
+
+def field_faults(generator):
+    yield from task_field_faults(generator, 1)
+    yield from row_field_faults(generator)
+    yield from single_faults(generator, 1)
+
+
+def task_pairs(generator, version, numbers):
+    """Two faulty fields of one record, in each of these."""
+    for fields in itertools.combinations(TASK_FAULTS[version], 2):
+        for number in numbers:
             faults = [(generator.pick(field), number) for field in fields]
-            yield from spoiled_table(generator, 3, generator.between(0, 2), *faults)
+            yield from spoiled_table(generator, version, 3, generator.between(0, 2), *faults)
+
+
+def row_pairs(generator):
+    """Two faulty fields of one row. It is moved first, since that changes its other fields."""
     for fields in itertools.combinations(reversed(ROW_FAULTS), 2):
         first = 1 if ORDER_FAULTS in fields else 0
         for faults in itertools.product(*fields):
             number = generator.between(first, 3)
             pairs = [(fault, number) for fault in faults]
-            yield from spoiled_table(generator, generator.between(2, 4), 4, *pairs)
-    for start in range(len(TASK_FAULTS)):
-        faults = [(generator.pick(field), 1) for field in TASK_FAULTS[start:]]
-        yield from spoiled_table(generator, 2, 1, *faults)
+            yield from spoiled_table(generator, 1, generator.between(2, 4), 4, *pairs)
+
+
+def task_tails(generator, version):
+    """Every field of a record with all that are tested after it."""
+    for start in range(len(TASK_FAULTS[version])):
+        faults = [(generator.pick(field), 1) for field in TASK_FAULTS[version][start:]]
+        yield from spoiled_table(generator, version, 2, 1, *faults)
+
+
+def row_tails(generator):
     for start in range(len(ROW_FAULTS)):
         faults = [(generator.pick(field), 2) for field in reversed(ROW_FAULTS[start:])]
-        yield from spoiled_table(generator, 3, 4, *faults)
+        yield from spoiled_table(generator, 1, 3, 4, *faults)
+
+
+def neighbour_faults(generator):
+    yield from task_pairs(generator, 1, list(range(3)) * 2)
+    yield from row_pairs(generator)
+    yield from task_tails(generator, 1)
+    yield from row_tails(generator)
+
+
+def distant_pairs(generator, fields):
+    """Any two fields of two records or rows, next to each other or not."""
+    for first, second in itertools.product(fields, repeat=2):
+        at = generator.between(1, 2)
+        for numbers in ((at, at + 1), (generator.below(2), 3)):
+            faults = zip((generator.pick(first), generator.pick(second)), numbers)
+            yield from spoiled_table(generator, 1, 4, 4, *faults)
+
+
+def task_and_row_faults(generator, version):
+    """Any field of a record with any field of a row."""
+    for first, second in itertools.product(TASK_FAULTS[version], ROW_FAULTS):
+        faults = [(generator.pick(first), generator.below(3)), (generator.pick(second), 1)]
+        yield from spoiled_table(generator, version, 3, 2, *faults)
 
 
 def distant_faults(generator):
-    """Any two fields of two records or rows, next to each other or not, or of a record and a
-    row."""
-    for fields in (TASK_FAULTS, ROW_FAULTS):
-        for first, second in itertools.product(fields, repeat=2):
-            at = generator.between(1, 2)
-            for numbers in ((at, at + 1), (generator.below(2), 3)):
-                faults = zip((generator.pick(first), generator.pick(second)), numbers)
-                yield from spoiled_table(generator, 4, 4, *faults)
-    for first, second in itertools.product(TASK_FAULTS, ROW_FAULTS):
-        faults = [(generator.pick(first), generator.below(3)), (generator.pick(second), 1)]
-        yield from spoiled_table(generator, 3, 2, *faults)
+    yield from distant_pairs(generator, TASK_FAULTS[1])
+    yield from distant_pairs(generator, ROW_FAULTS)
+    yield from task_and_row_faults(generator, 1)
 
 
-def far_faults(generator):
+def far_faults(generator, version, sizes):
     """The last and a middle record or row of long tables: the greatest places."""
-    for count, row_count in ((MOST_TASKS, MOST_ROWS), (MOST_TASKS, 0), (MOST_TASKS, 1),
-                             (4, MOST_ROWS), (1, GREATEST_SEMAPHORE)):
-        for fields, size in ((TASK_FAULTS, count), (ROW_FAULTS, row_count)):
+    for count, row_count in sizes:
+        for fields, size in ((TASK_FAULTS[version], count), (ROW_FAULTS, row_count)):
             for field, number in itertools.product(fields, ends_of(size)[-2:]):
-                yield from spoiled_table(generator, count, row_count,
+                yield from spoiled_table(generator, version, count, row_count,
                                          (generator.pick(field), number))
 
 
@@ -1342,16 +1488,19 @@ def limits_of(tasks, number):
     above = tasks[number - 1].priority if number else GREATEST_PRIORITY + 1
     below = tasks[number + 1].priority if number + 1 < len(tasks) else 0
     return {"period": (task.deadline, GREATEST_TICKS), "cost": (1, GREATEST_TICKS),
-            "deadline": (1, task.period), "jitter": (0, GREATEST_TICKS),
-            "priority": (below + 1, above - 1)}
+            "deadline": (1, task.period), "earliest": (0, task.latest),
+            "latest": (task.earliest, GREATEST_TICKS), "priority": (below + 1, above - 1)}
 
 
-def within_limits(generator):
+def tasks_within_limits(generator, version):
     """Fields just inside the limits that the faults are just outside of: nothing is refused."""
-    for field, number, end in itertools.product(TASK_FIELDS, range(3), range(2)):
-        tasks, _ = made_table(generator, 3, 0, 60)
+    for field, number, end in itertools.product(LAYOUTS[version].fields, range(3), range(2)):
+        tasks, _ = made_table(generator, 3, 0, 60, version)
         tasks[number] = tasks[number]._replace(**{field: limits_of(tasks, number)[field][end]})
-        yield answered_entry(generator, tasks, [])
+        yield answered_entry(generator, tasks, [], version)
+
+
+def rows_within_limits(generator):
     for number, field, value in ((0, "semaphore", 1), (3, "semaphore", GREATEST_SEMAPHORE),
                                  (3, "place", 2), (0, "length", 1), (3, "length", None)):
         tasks, rows = made_table(generator, 3, 4, 60)
@@ -1360,12 +1509,18 @@ def within_limits(generator):
         yield answered_entry(generator, tasks, rows)
 
 
+def within_limits(generator):
+    yield from tasks_within_limits(generator, 1)
+    yield from rows_within_limits(generator)
+
+
 def placed_faults(generator):
     yield from count_faults(generator)
     yield from field_faults(generator)
     yield from neighbour_faults(generator)
     yield from distant_faults(generator)
-    yield from far_faults(generator)
+    yield from far_faults(generator, 1, [(MOST_TASKS, MOST_ROWS), (MOST_TASKS, 0), (MOST_TASKS, 1),
+                                         (4, MOST_ROWS), (1, GREATEST_SEMAPHORE)])
 
 
 def place_entries(generator):
@@ -1374,6 +1529,253 @@ def place_entries(generator):
     for spoiled in placed_faults(generator):
         yield spoiled.entry
     yield from within_limits(generator)
+
+
+# ---------------------------------------------------------------------------
+# Made tables of version 2
+# ---------------------------------------------------------------------------
+
+# 01's jitter table "With delays 10 and 10 on its first task" is the first; all are worked out by
+# hand.
+DELAY_TABLES = [
+    worked([(30, 10, 20, 10, 10), (1000, 15, 25)], [20, 25], rounds=[1, 2]),
+    # As version 1 has it.
+    worked([(30, 10, 20, 0, 10), (1000, 15, 25)], [20, 0], rounds=[1, 2]),
+    # 25 + 5 is 30, which divides evenly; with one tick more a second job counts.
+    worked([(30, 10, 20, 5, 10), (1000, 15, 25)], [20, 25], rounds=[1, 2]),
+    worked([(30, 10, 20, 4, 10), (1000, 15, 25)], [20, 0], rounds=[1, 2]),
+    # To a task's own answer the latest is added whole, whatever the earliest is.
+    worked([(30, 10, 20, 10, 10), (1000, 15, 30, 5, 5)], [20, 30], rounds=[1, 2]),
+    worked([(30, 10, 20, 10, 10), (1000, 15, 30, 0, 5)], [20, 30], rounds=[1, 2]),
+    worked([(30, 10, 20, 10, 10), (1000, 15, 29, 5, 5)], [20, 0], rounds=[1, 1]),
+    worked([(10, 4, 10, 6, 6)], [10], rounds=[1]),
+    worked([(10, 4, 10, 7, 7)], [0], rounds=[1]),
+    worked([(10, 4, 10, 0, 7)], [0], rounds=[1]),
+    # Delays above the deadline, above the period, and the greatest.
+    worked([(10, 1, 10, 0, 11), (20, 1, 20, 1000000, 1000000), (40, 4, 40, 3, 4)], [0, 0, 11],
+           rounds=[1, 1, 2]),
+    # With sections.
+    worked([(10, 2, 5, 1, 3)] + list(SECTIONS[1:]), [5, 12, 24, 26], rows=SECTION_ROWS,
+           rounds=[1, 3, 4, 4], blocking=[0, 5, 2, 0]),
+]
+
+DELAYS_TEXT = """tasks 2
+0 response 20 deadline 20 rounds 1
+1 response 25 deadline 25 rounds 2
+schedulable
+"""
+
+
+def delay_edges():
+    """Places counted by hand, each with the text it must get (None: any answer but a refusal):
+    in version 2 the records of the table with sections begin at bytes 5, 26, 47 and 68, its rows
+    at 89, 95, 101 and 107."""
+    for changes, text in (
+            ([(0, {"priority": 0})], "refused 6 at 5\n"),
+            ([(0, {"earliest": 1})], "refused 5 at 22\n"),
+            ([(1, {"priority": 4})], "refused 6 at 26\n"),
+            ([(1, {"period": 0})], "refused 5 at 27\n"),
+            ([(1, {"cost": 0})], "refused 5 at 31\n"),
+            ([(1, {"deadline": 21})], "refused 5 at 35\n"),
+            ([(1, {"earliest": 1000001})], "refused 5 at 39\n"),
+            ([(1, {"earliest": 1000001, "latest": 1000000})], "refused 5 at 39\n"),
+            ([(1, {"earliest": 1000001, "latest": 1000001})], "refused 5 at 39\n"),
+            ([(1, {"latest": 1000001})], "refused 5 at 43\n"),
+            ([(1, {"earliest": 1000000, "latest": 1000001})], "refused 5 at 43\n"),
+            ([(1, {"earliest": 1000000, "latest": 999999})], "refused 5 at 43\n"),
+            ([(1, {"earliest": 1})], "refused 5 at 43\n"),
+            ([(1, {"latest": 1000000})], None),
+            ([(1, {"earliest": 1000000, "latest": 1000000})], None),
+            ([(1, {"earliest": 7, "latest": 7})], None),
+            ([(3, {"earliest": 1000001})], "refused 5 at 81\n"),
+            ([(3, {"latest": 1000001})], "refused 5 at 85\n"),
+            ([(1, {"deadline": 0, "earliest": 1000001})], "refused 5 at 35\n"),
+            ([(1, {"priority": 0, "earliest": 1000001})], "refused 5 at 39\n"),
+            ([(1, {"priority": 0, "earliest": 1})], "refused 5 at 43\n"),
+            ([(1, {"priority": 0}), (2, {"earliest": 1000001})], "refused 6 at 26\n"),
+            ([(1, {"latest": 1000001}), (2, {"priority": 0})], "refused 5 at 43\n")):
+        draft = Draft(listed(*SECTIONS), listed_rows(*SECTION_ROWS), 2)
+        yield changed_tasks(draft, changes), text
+    for changes, text in (
+            ([(0, {"place": 4})], "refused 7 at 89\n"),
+            ([(2, {"semaphore": 17})], "refused 7 at 102\n"),
+            ([(2, {"length": 11})], "refused 7 at 103\n"),
+            ([(3, {"place": 2, "semaphore": 2})], "refused 7 at 107\n"),
+            ([(3, {"length": 5})], "refused 7 at 109\n")):
+        draft = Draft(listed(*SECTIONS), listed_rows(*SECTION_ROWS), 2)
+        yield changed_rows(draft, changes), text
+
+
+def version_edges():
+    """Heads and bodies of different versions, with the text that each must get."""
+    sections = listed(*SECTIONS), listed_rows(*SECTION_ROWS)
+    first, second = (Draft(*sections, version).data() for version in (1, 2))
+    for version in (0, 3, 4, 255):
+        yield bytes([version]) + second[1:], "refused 2 at 0\n"
+        yield bytes([version, 0, 5, 33, 65]), "refused 2 at 0\n"
+    yield bytes([2, 0, 5, 1]), "refused 1 at 0\n"
+    yield bytes([2, 0, 5, 0, 65]), "refused 3 at 3\n"
+    yield bytes([2, 0, 5, 33, 0]), "refused 3 at 3\n"
+    yield bytes([2, 0, 5, 1, 65]), "refused 3 at 4\n"
+    yield bytes([2, 0, 5, 1, 0]), "refused 4 at 0\n"
+    # One version's bytes under the other's head, with each length stated.
+    for data, other in ((first, second), (second, first)):
+        yield other[:1] + data[1:], "refused 4 at 0\n"
+        yield other[:3] + data[3:], "refused 4 at 0\n"
+        yield data[:1] + other[1:3] + data[3:], "refused 4 at 0\n"
+        yield data[:1] + other[1:], "refused 4 at 0\n"
+    # A length that both versions have: three records and two rows, three longer records and none.
+    # The latest delay of the first is then read where version 1's second record begins.
+    rows = listed_rows((0, 1, 1), (1, 1, 2))
+    data = Draft(listed(*FIFTH), rows).data()
+    yield data, None
+    yield b"\x02" + data[1:4] + b"\x00" + data[5:], "refused 5 at 22\n"
+
+
+def delay_pairings(generator):
+    """Each delay at and beyond its limits, in every pairing."""
+    ends = (0, 1, 10, GREATEST_TICKS, GREATEST_TICKS + 1, GREATEST_WORD)
+    for earliest, latest in itertools.product(ends, repeat=2):
+        number = generator.below(3)
+        draft = Draft(*made_table(generator, 3, 2, 60, 2), 2)
+        draft.change_task(number, earliest=earliest, latest=latest)
+        refusals = []
+        if earliest > GREATEST_TICKS:
+            refusals.append(asked_by_task(draft, number, "earliest"))
+        if latest > GREATEST_TICKS or earliest > latest:
+            refusals.append(asked_by_task(draft, number, "latest"))
+        yield Spoiled(exact_entry(draft.data()), refusals)
+
+
+def head_faults(generator):
+    """Every fault of the first five bytes and of the length."""
+    for fault in itertools.chain(*FAULTS_BY_REFUSAL[2][:4]):
+        draft = sound_draft(generator, 2)
+        refusal = fault(draft, 0)
+        if refusal:
+            yield spoiled_entry(generator, draft, [refusal])
+
+
+def following_faults(generator):
+    """Any two fields of a record and the next."""
+    for first, second in itertools.product(TASK_FAULTS[2], repeat=2):
+        number = generator.below(2)
+        faults = (generator.pick(first), number), (generator.pick(second), number + 1)
+        yield from spoiled_table(generator, 2, 3, 1, *faults)
+
+
+def delay_faults(generator):
+    yield from wrong_counts(2)
+    yield from delay_pairings(generator)
+    yield from head_faults(generator)
+    yield from task_field_faults(generator, 2)
+    yield from single_faults(generator, 2)
+    yield from task_pairs(generator, 2, range(3))
+    yield from task_tails(generator, 2)
+    yield from following_faults(generator)
+    yield from task_and_row_faults(generator, 2)
+    yield from far_faults(generator, 2, [(MOST_TASKS, MOST_ROWS)])
+
+
+def greatest_delay_tables():
+    """The largest sums with delays, and some that look right to words that are too narrow."""
+    top = GREATEST_TICKS
+    for period, delays in itertools.product((1, top), ((0, top), (top - 1, top), (top, top))):
+        short = [(period, top, period) + delays] * (MOST_TASKS - 1)
+        yield Draft(listed(*short, (top, 1, top)), version=2).data()
+    for earliest in (0, 1, 500, 900000):
+        # One load of 65536 times 65536, which is 2^32: cut to 32 bits, demand is the cost.
+        yield Draft(listed((1, 65536, 1, earliest, earliest + 65536 - 7), (top, 7, top)),
+                    version=2).data()
+    # D - latest is below 0.
+    yield Draft(listed((10, 1, 10, 11, 11), (10, 1, 9, 0, 10), (20, 1, 1, top, top)),
+                version=2).data()
+
+
+def long_delay_tables(generator):
+    """Lengths about 1,061, the longest table of version 2, and about 933, that of version 1."""
+    largest = Draft(*made_table(generator, MOST_TASKS, MOST_ROWS, 3000, 2), 2).data()
+    yield largest
+    for length in (1060, 933, 934):
+        yield largest[:length]
+        yield with_stated_length(largest[:length])
+    for length in (1062, 1063, 2000, 4590):
+        yield largest.ljust(length, b"\x02")
+    yield with_stated_length(largest + b"\x00")
+    yield b"\x01" + largest[1:]
+    yield with_stated_length(b"\x01" + largest[1:933])
+
+
+def twin_entries(generator, how_many):
+    # "Version 1 tables read with earliest 0 and keep their answers": the same tables in version 2.
+    for table in WORKED_TABLES[:-1]:
+        yield exact_entry(Draft(table.tasks, table.rows, 2).data())
+    for _ in range(how_many):
+        tasks, rows = any_small_table(generator)
+        lengths = slices_for(generator, len(tasks))
+        for version in (1, 2):
+            yield Entry(Draft(tasks, rows, version).data(), *lengths)
+
+
+def delay_size_entries(generator):
+    """Every n from 1 to 32, and some m up to 64."""
+    for count in range(1, MOST_TASKS + 1):
+        tasks, rows = made_table(generator, count, generator.between(0, 2 * count), 50 * count, 2)
+        yield answered_entry(generator, tasks, rows, 2)
+    for row_count in (16, 33, 63, MOST_ROWS):
+        yield answered_entry(generator, *made_table(generator, 6, row_count, 200, 2), 2)
+
+
+def playable_delay_entries(generator):
+    """Version 2 for the engine: all delays 0, as many schedulable as late; and a single delay, a
+    constant one too, which gets 9, or 8 where the slice is short."""
+    for count, wanted in itertools.product((1, 2, 3, 5, 8, 13, 31, MOST_TASKS), (True, False)):
+        tasks = plain_tasks(generator, count, 15 * count)
+        while is_schedulable(tasks, []) != wanted:
+            tasks = plain_tasks(generator, count, 15 * count)
+        yield answered_entry(generator, tasks, [], 2)
+    top = GREATEST_TICKS
+    for count, number, delays in ((1, 0, (1, 1)), (3, 0, (1, 1)), (3, 2, (1, 1)), (3, 1, (0, 1)),
+                                  (3, 2, (top, top)), (MOST_TASKS, MOST_TASKS - 1, (1, 1))):
+        draft = Draft(listed(*[(1000, 1, 1000)] * count), version=2)
+        draft.change_task(number, earliest=delays[0], latest=delays[1])
+        for lengths in ((count, 0), (count, count), (count - 1, count)):
+            yield Entry(draft.data(), *lengths)
+    rows = listed_rows((2, 16, 1))
+    yield exact_entry(Draft(listed(*[(1000, 1, 1000)] * 3), rows, 2).data())
+
+
+def delay_slice_entries():
+    data = Draft(DELAY_TABLES[0].tasks, version=2).data()
+    for lengths in ((0, 0), (1, 2), (2, 1), (2, 2), (2, 40), (40, 2), (40, 40)):
+        yield Entry(data, *lengths)
+
+
+def spoiled_delay_tables():
+    """Every beginning of a table of one task, and every byte of another changed."""
+    yield from cut_tables(Draft(DELAY_TABLES[7].tasks, version=2).data())
+    tasks = listed((30, 10, 20, 4, 10), (90, 15, 80, 7, 7))
+    yield from changed_byte_tables(Draft(tasks, listed_rows((1, 1, 3)), 2).data())
+
+
+def delay_entries(generator):
+    for spoiled in itertools.chain(delay_faults(generator), two_faults(generator, 50, 2)):
+        yield spoiled.entry
+    yield from tasks_within_limits(generator, 2)
+    for table in DELAY_TABLES:
+        yield exact_entry(Draft(table.tasks, table.rows, 2).data())
+    for data, _ in itertools.chain(delay_edges(), version_edges()):
+        yield exact_entry(data)
+    yield from small_entries(generator, 100, 2)
+    yield from deadline_entries(generator, 40, 2)
+    yield from delay_size_entries(generator)
+    yield from limit_entries(generator, 30, 2)
+    yield from twin_entries(generator, 15)
+    yield from playable_delay_entries(generator)
+    yield from delay_slice_entries()
+    for data in itertools.chain(greatest_delay_tables(), spoiled_delay_tables(),
+                                junk_tables(generator, 6, 2), long_delay_tables(generator)):
+        yield exact_entry(data)
 
 
 SEED = 20240101
@@ -1390,6 +1792,7 @@ def all_entries():
     yield from made_entries(Generator(SEED))
     yield from engine_entries(Generator(SEED + 3))
     yield from place_entries(Generator(SEED + 5))
+    yield from delay_entries(Generator(SEED + 6))
 
 
 def entry_bytes(entry):
@@ -1480,7 +1883,7 @@ def read_playable(entry):
     """The tasks of an entry that the engine takes; it has one slice, lent as that for answers."""
     tasks, rows = read_table(entry.table, entry.answers_length, entry.answers_length)
     # "Any nonzero jitter or delay, or any row, gets a new refusal 9, after 8, place 0".
-    refuse_when(rows or any(task.jitter for task in tasks), 9)
+    refuse_when(rows or any(task.earliest or task.latest for task in tasks), 9)
     return tasks
 
 
@@ -1608,10 +2011,18 @@ def check_documents(checks):
     checks.same(text_of(Draft(listed(*FIFTH)).data()), FIFTH_TEXT, "fifth table's text")
     late = WORKED_TABLES[10]
     checks.same(text_of(Draft(late.tasks).data()), LATE_TEXT, "late table's text")
+    for number, table in enumerate(DELAY_TABLES):
+        check_printed(checks, table, "table %d with delays" % number)
+    delayed = Draft(DELAY_TABLES[0].tasks, version=2).data()
+    checks.same(text_of(delayed), DELAYS_TEXT, "text of the table with delays")
+    # "at most 933"; and the program takes one byte more than the longest of all.
+    lengths = [longest_table(version) for version in LAYOUTS] + [MOST_BYTES_TAKEN]
+    checks.same(lengths, [933, 1061, 1062], "longest tables")
     for number, data in enumerate(wrapping_tables()):
         last = outcomes_of(*read_table(data, MOST_TASKS, MOST_TASKS))[-1]
         checks.same(last.response, 0, "wrapping table %d" % number)
-    for number, (data, wanted) in enumerate(itertools.chain(edge_tables(), place_edges())):
+    edges = itertools.chain(edge_tables(), place_edges(), delay_edges(), version_edges())
+    for number, (data, wanted) in enumerate(edges):
         text = text_of(data)
         if wanted is None:
             text = None if text.startswith("tasks ") else text
@@ -1621,23 +2032,34 @@ def check_documents(checks):
 def check_faults(checks):
     """Each fault gives its own refusal; of two of different stages the earlier is given. (Two in
     one stage, or two in the header, may undo each other.)"""
-    def check_earliest(spoiled, what):
-        checks.same(refusal_of(spoiled.entry), earliest(spoiled.refusals)[:2], what)
+    def check_first(spoiled, what):
+        wanted = first_asked(spoiled.refusals)[:2] if spoiled.refusals else None
+        checks.same(refusal_of(spoiled.entry), wanted, what)
+
+    def check_two(spoiled, what):
+        first, second = sorted(asked.turn[0] for asked in spoiled.refusals)
+        if second > 4 and first != second:
+            check_first(spoiled, what)
 
     generator = Generator(SEED + 1)
     for spoiled in one_fault(generator):
-        check_earliest(spoiled, "one fault")
+        check_first(spoiled, "one fault")
     for spoiled in two_faults(generator, 600):
-        first, second = sorted(asked.turn[0] for asked in spoiled.refusals)
-        if second > 4 and first != second:
-            check_earliest(spoiled, "two faults")
+        check_two(spoiled, "two faults")
     for spoiled in alternating_faults(generator):
-        check_earliest(spoiled, "5 and 6")
+        check_first(spoiled, "5 and 6")
     generator = Generator(SEED + 5)
     for spoiled in placed_faults(generator):
-        check_earliest(spoiled, "places")
+        check_first(spoiled, "places")
     for entry in within_limits(generator):
         checks.same(refusal_of(entry), None, "within limits")
+    generator = Generator(SEED + 6)
+    for spoiled in delay_faults(generator):
+        check_first(spoiled, "version 2")
+    for spoiled in two_faults(generator, 600, 2):
+        check_two(spoiled, "two faults in version 2")
+    for entry in tasks_within_limits(generator, 2):
+        checks.same(refusal_of(entry), None, "within limits of version 2")
 
 
 def check_searches(checks, tasks, rows):
@@ -1648,9 +2070,10 @@ def check_searches(checks, tasks, rows):
         plain = plain_search(base, urgent_tasks, task.deadline)
         skipping = skipping_search(base, urgent_tasks, task.deadline)
         checks.same(skipping, plain, "search of task %d of %r" % (place, tasks))
-        # "rounds is at most D_i - J_i - x0 + 1 when x0 + J_i <= D_i, and is 1 otherwise"
+        # "rounds is at most D_i - J_i - x0 + 1 when x0 + J_i <= D_i, and is 1 otherwise", with the
+        # latest for J_i
         rounds = count_rounds(task, base, urgent_tasks)
-        bound = max(1, task.deadline - task.jitter - base + 1)
+        bound = max(1, task.deadline - task.latest - base + 1)
         checks.same(1 <= rounds <= bound, True, "rounds of task %d of %r" % (place, tasks))
 
 
@@ -1676,9 +2099,99 @@ def check_runs(checks):
     generator = Generator(SEED + 2)
     for _ in range(700):
         count = generator.between(1, 4)
-        tasks = without_jitter(made_tasks(generator, count, generator.pick([4, 8, 15, 30])))
+        tasks = without_delays(made_tasks(generator, count, generator.pick([4, 8, 15, 30])))
         check_random_runs(checks, generator, tasks)
         check_run_together(checks, tasks)
+
+
+def released_with_delays(generator, tasks, ticks):
+    """A run in which a job is released between its task's earliest and latest delay after it
+    arrives, and arrivals are at least T apart; gives the arrivals and the jobs."""
+    looseness = generator.below(3)
+    arrivals, jobs = [], []
+    for place, task in enumerate(tasks):
+        arrival = generator.between(0, looseness * task.period)
+        while arrival < ticks:
+            delay = generator.pick([task.earliest, task.latest,
+                                    generator.between(task.earliest, task.latest)])
+            arrivals.append(arrival)
+            jobs.append(Job(place, arrival + delay, task.cost))
+            arrival += task.period + generator.below(1 + looseness * task.period)
+    return arrivals, jobs
+
+
+def worst_with_delays(tasks, place, ticks):
+    """The task asked about and all more urgent ones have a job released at one tick after their
+    latest delay; their next jobs arrive every T and are released as early after it as they may
+    be. The job asked about comes first; gives its arrival too."""
+    start = max(task.latest for task in tasks)
+    jobs = [Job(place, start, tasks[place].cost)]
+    for number, task in enumerate(tasks[:place]):
+        for arrival in range(start - task.latest, ticks, task.period):
+            jobs.append(Job(number, max(start, arrival + task.earliest), task.cost))
+    return start - tasks[place].latest, jobs
+
+
+def check_delayed_runs(checks):
+    """Answers count from arrival: no job takes longer than that, and in the worst run the one
+    asked about takes as long. (Document 02 claims that of runs in L13; here it shows that L4's
+    spread and latest stand where they should.)"""
+    generator = Generator(SEED + 7)
+    for _ in range(300):
+        count, scale = generator.between(1, 4), generator.pick([4, 8, 15, 30])
+        tasks = [task._replace(earliest=min(task.earliest, 50), latest=min(task.latest, 50))
+                 for task in made_tasks(generator, count, scale, 2)]
+        responses = [outcome.response for outcome in outcomes_of(tasks, [])]
+        ticks = 4 * scale + 60
+        for _ in range(6):
+            arrivals, jobs = released_with_delays(generator, tasks, ticks)
+            dues = [arrival + responses[job.task] for arrival, job in zip(arrivals, jobs)]
+            late = [job for job, due, end in zip(jobs, dues, play(count, jobs, ticks))
+                    if responses[job.task] and due <= ticks and (end is None or end > due)]
+            checks.same(late, [], "run with delays of %r" % (tasks,))
+        for place, task in enumerate(tasks):
+            arrival, jobs = worst_with_delays(tasks, place, 200)
+            end = play(count, jobs, arrival + task.deadline)[0]
+            checks.same(end and end - arrival, responses[place] or None,
+                        "worst run of task %d of %r" % (place, tasks))
+
+
+def as_version_2(data):
+    """The bytes of a version 1 table with a right head: before each J, which is now the latest
+    delay, four bytes 0 for the earliest."""
+    rows_at = 5 + 17 * data[3]
+    records = [data[at:at + 13] + bytes(4) + data[at + 13:at + 17]
+               for at in range(5, rows_at, 17)]
+    return with_stated_length(b"\x02" + data[1:5] + b"".join(records) + data[rows_at:])
+
+
+def moved_place(refusal, task_count):
+    """Where the place of a version 1 table's refusal 5, 6, 7 or 8 comes to stand in that."""
+    number, place = refusal
+    record, at = divmod(place - 5, 17)
+    if number == 8:
+        return refusal
+    if record >= task_count:
+        return number, place + 4 * task_count
+    return number, 5 + 21 * record + (17 if at == 13 else at)
+
+
+def check_both_versions(checks):
+    # "Version 1 tables read with earliest 0 and keep their answers."
+    for number, entry in enumerate(all_entries()):
+        refusal = refusal_of(entry)
+        if entry.table[:1] != b"\x01" or refusal and refusal[0] < 5:
+            continue
+        second = entry._replace(table=as_version_2(entry.table))
+        what = "entry %d in version 2" % number
+        if refusal:
+            checks.same(refusal_of(second), moved_place(refusal, entry.table[3]), what)
+            continue
+        tasks, rows = read_table(*entry)
+        checks.same(read_table(*second), (tasks, rows), what)
+        if latest_deadline(tasks) <= LONGEST_PLAIN_DEADLINE:
+            checks.same(text_of(*second), text_of(*entry), what)
+            checks.same(engine_line(second), engine_line(entry), what)
 
 
 def check_event_playing(checks):
@@ -1686,7 +2199,7 @@ def check_event_playing(checks):
     generator = Generator(SEED + 4)
     for _ in range(600):
         count = generator.between(1, 6)
-        tasks = without_jitter(made_tasks(generator, count, generator.pick([1, 4, 12, 40, 90])))
+        tasks = without_delays(made_tasks(generator, count, generator.pick([1, 4, 12, 40, 90])))
         if generator.chance(1, 3):
             tasks = [task._replace(cost=generator.between(1, 2 * task.period)) for task in tasks]
         last = latest_deadline(tasks)
@@ -1713,8 +2226,13 @@ def check_engine_edges(checks):
             (sections, (4, 3), "refused 9 at 0"),
             (sections, (3, 4), "refused 8 at 0"),
             (WORKED_TABLES[7], (40, 0), "late 2")):
-        entry = Entry(Draft(table.tasks, table.rows).data(), *lengths)
-        checks.same(engine_line(entry), wanted, "engine with slices of %d and %d" % lengths)
+        for version in LAYOUTS:
+            entry = Entry(Draft(table.tasks, table.rows, version).data(), *lengths)
+            checks.same(engine_line(entry), wanted, "engine with slices of %d and %d" % lengths)
+    # A constant delay is a delay: "Any nonzero jitter or delay".
+    for lengths, wanted in (((2, 0), "refused 9 at 0"), ((1, 2), "refused 8 at 0")):
+        entry = Entry(Draft(DELAY_TABLES[0].tasks, version=2).data(), *lengths)
+        checks.same(engine_line(entry), wanted, "engine with delays 10 and 10")
 
 
 def check_engine(checks):
@@ -1746,7 +2264,7 @@ def check_entries(checks):
         if longest <= LONGEST_PLAIN_DEADLINE:
             check_searches(checks, tasks, rows)
         if longest <= LONGEST_PLAYED_DEADLINE and not rows and not any(
-                task.jitter for task in tasks):
+                task.latest for task in tasks):
             check_run_together(checks, tasks)
 
 
@@ -1762,7 +2280,7 @@ def loaded_tasks(count, percent):
     tasks, period = [], 1000
     for place in range(count):
         cost = max(1, period * percent // (100 * count))
-        tasks.append(Task(count - place, period, cost, period, 0))
+        tasks.append(Task(count - place, period, cost, period, 0, 0))
         period = period * 6 // 5 + place % 3
     return tasks
 
@@ -1782,24 +2300,35 @@ def is_schedulable(tasks, rows):
     return all(outcome.response for outcome in outcomes_of(tasks, rows))
 
 
-def loaded_draft(count, row_count, percents):
-    """The last of these loads that is still schedulable, and its table."""
+def with_delays(tasks):
+    """The latest delay is a tenth of the period, the earliest half of that."""
+    return [task._replace(earliest=task.period // 20, latest=task.period // 10) for task in tasks]
+
+
+def loaded_draft(count, row_count, percents, version=1):
+    """The last of these loads that is still schedulable, and its table; in version 2 with
+    delays."""
     chosen = None
     for percent in percents:
         tasks = loaded_tasks(count, percent)
         rows = loaded_rows(tasks, row_count)
+        if version == 2:
+            tasks = with_delays(tasks)
         if is_schedulable(tasks, rows):
-            chosen = percent, Draft(tasks, rows)
+            chosen = percent, Draft(tasks, rows, version)
     return chosen
 
 
-def load_class(count, row_count, kind, percents):
-    percent, draft = loaded_draft(count, row_count, percents)
+def load_class(count, row_count, kind, percents, version=1):
+    percent, draft = loaded_draft(count, row_count, percents, version)
     title = "%d %s, %s (%d%%)" % (count, "task" if count == 1 else "tasks", kind, percent)
     name = "%d-%s" % (count, kind.replace(" ", "-"))
     if row_count:
         title += ", %d rows" % row_count
         name += "-rows"
+    if version == 2:
+        title += ", delays"
+        name += "-delays"
     return Measured(name, 100, 200, title, draft.data())
 
 
@@ -1835,11 +2364,11 @@ def refusal_classes():
     last_task, last_row = MOST_TASKS - 1, MOST_ROWS - 1
     for title, fault, number in (
             ("1", cut_fault(4), 0),
-            ("2", header_fault("version", 2), 0),
-            ("3", header_fault("row_count", 65), 0),
+            ("2", version_fault(255), 0),
+            ("3", count_fault("row_count", 65), 0),
             ("4", length_fault(lent=1), 0),
-            ("5, first task", number_fault("jitter", lambda task: GREATEST_TICKS + 1), 0),
-            ("5, last task", number_fault("jitter", lambda task: GREATEST_TICKS + 1), last_task),
+            ("5, first task", number_fault("latest", lambda task: GREATEST_TICKS + 1), 0),
+            ("5, last task", number_fault("latest", lambda task: GREATEST_TICKS + 1), last_task),
             ("6, first task", priority_fault(lambda before: 0), 0),
             ("6, last task", priority_fault(lambda before: 0), last_task),
             ("7, first row", row_fault(length=lambda draft, row: 0), 0),
@@ -1850,11 +2379,22 @@ def refusal_classes():
         yield Measured(name, 100, 200, "refusal " + title, draft.data())
 
 
+def delay_classes():
+    """Version 2."""
+    for count in (1, 8, MOST_TASKS):
+        yield load_class(count, 0, "near full load", range(50, 101), 2)
+    _, draft = loaded_draft(MOST_TASKS, MOST_ROWS, [30], 2)
+    LATEST_FAULTS[0](draft, MOST_TASKS - 1)
+    yield Measured("refusal-5-last-latest", 100, 200, "refusal 5, last task's latest delay",
+                   draft.data())
+
+
 def measured_classes():
     yield from load_classes()
     yield Measured("most-loads", 1, 2, "32 tasks, the most loads found", most_loads_table())
     yield Measured("slowest", 1, 2, "32 tasks, the slowest table found", slowest_table())
     yield from refusal_classes()
+    yield from delay_classes()
 
 
 Playable = collections.namedtuple("Playable", "name title data")
@@ -1877,7 +2417,7 @@ def every_tick_class(name, count):
 
 def unplayable_classes():
     _, draft = loaded_draft(MOST_TASKS, 0, [30])
-    draft.change_task(MOST_TASKS - 1, jitter=1)
+    draft.change_task(MOST_TASKS - 1, latest=1)
     yield Playable("refusal-9-jitter", "refusal 9, jitter in the last of 32 tasks", draft.data())
     _, draft = loaded_draft(MOST_TASKS, MOST_ROWS, [30])
     yield Playable("refusal-9-rows", "refusal 9, 32 tasks, 64 rows", draft.data())
@@ -1903,7 +2443,7 @@ def playable_classes():
 # ---------------------------------------------------------------------------
 
 def command_answer(arguments):
-    """Reads at most 934 bytes "and judges what it took"."""
+    """Reads at most 1,062 bytes "and judges what it took"."""
     if arguments.file is None:
         data = sys.stdin.buffer.read(MOST_BYTES_TAKEN)
     else:
@@ -1934,7 +2474,9 @@ def command_check(_arguments):
     check_documents(checks)
     check_faults(checks)
     check_entries(checks)
+    check_both_versions(checks)
     check_runs(checks)
+    check_delayed_runs(checks)
     check_event_playing(checks)
     check_engine_edges(checks)
     taken = check_engine(checks)

@@ -84,11 +84,13 @@ static int helpers_agree(uint64_t verdict)
 
 /* Can the place be that of such a verdict? A late task has a number. Refusals 3, 5, 6 and 7 point
  * at the first byte of a field (document 02, L3): n or m; T, C, D or J, at 1, 5, 9 or 13 in a
- * record; the priority, at 0 in it; one of the three at 0, 1 and 2 in a row. */
+ * record, and in version 2 (L4) a delay at 13 or 17; the priority, at 0 in it; one of the three at
+ * 0, 1 and 2 in a row. */
 static int place_fits(struct table table, uint64_t verdict)
 {
     size_t place = ulmerascio_place(verdict), n = table.length > 3 ? table.bytes[3] : 0;
-    size_t records = 5, rows = records + 17 * n, in_record = (place - records) % 17;
+    size_t size = table.length > 0 && table.bytes[0] == 2 ? 21 : 17;
+    size_t records = 5, rows = records + size * n, in_record = (place - records) % size;
 
     if (ulmerascio_is_late(verdict))
         return place < n;
@@ -235,14 +237,17 @@ static void try_slice_lengths(size_t number, struct table table, const struct ou
         compare_play("worked table", number, table, answers_len);
 }
 
-/* Changes to the table with sections, and the refusal of each. Its 4 records begin at bytes 5, 22,
- * 39 and 56, its 4 rows at 73, 79, 85 and 91. A change of byte 0 to 1 changes nothing. */
-static const struct {
+/* Two changes to a table, and the refusal that they bring. */
+struct fault {
     struct {
         uint8_t at, to;
     } changes[2];
     uint32_t refusal, place;
-} faults[] = {
+};
+
+/* Faults of the table with sections. Its 4 records begin at bytes 5, 22, 39 and 56, its 4 rows at
+ * 73, 79, 85 and 91. A change of byte 0 to 1 changes nothing. */
+static const struct fault faults[] = {
     {{{3, 33}, {0, 1}}, 3, 3},
     {{{4, 65}, {0, 1}}, 3, 4},
     {{{3, 0}, {4, 65}}, 3, 3},
@@ -263,49 +268,179 @@ static const struct {
     {{{91, 2}, {92, 0}}, 7, 92},  /* out of order, and the semaphore is 0 */
 };
 
-static void try_places(struct table table)
-{
-    uint8_t *bytes = malloc(table.length);
-    struct table faulty = {bytes, table.length};
+/* Document 01's jitter table, "With delays 10 and 10 on its first task" (document 02, L4). Its 2
+ * records begin at bytes 5 and 26. */
+static const uint8_t delays_table[] = {
+    2, 0, 47, 2, 0,
+    2, 0, 0, 0, 30, 0, 0, 0, 10, 0, 0, 0, 20, 0, 0, 0, 10, 0, 0, 0, 10,
+    1, 0, 0, 3, 232, 0, 0, 0, 15, 0, 0, 0, 25, 0, 0, 0, 0, 0, 0, 0, 0,
+};
 
-    if (!bytes) {
+/* The same with a row for each task, at bytes 47 and 53. */
+static const uint8_t delays_and_rows[] = {
+    2, 0, 59, 2, 2,
+    2, 0, 0, 0, 30, 0, 0, 0, 10, 0, 0, 0, 20, 0, 0, 0, 10, 0, 0, 0, 10,
+    1, 0, 0, 3, 232, 0, 0, 0, 15, 0, 0, 0, 25, 0, 0, 0, 0, 0, 0, 0, 0,
+    0, 1, 0, 0, 0, 10,
+    1, 1, 0, 0, 0, 15,
+};
+
+/* Faults of that. A change of byte 0 to 2 changes nothing. */
+static const struct fault delay_faults[] = {
+    {{{0, 0}, {0, 0}}, 2, 0},
+    {{{0, 3}, {3, 33}}, 2, 0},
+    {{{0, 1}, {0, 1}}, 4, 0},     /* in version 1 it would be shorter */
+    {{{3, 33}, {0, 2}}, 3, 3},
+    {{{4, 65}, {0, 2}}, 3, 4},
+    {{{2, 60}, {0, 2}}, 4, 0},
+    {{{4, 1}, {2, 53}}, 4, 0},
+    {{{29, 0}, {30, 0}}, 5, 27},  /* T is 0 */
+    {{{34, 0}, {0, 2}}, 5, 31},   /* C is 0 */
+    {{{38, 0}, {0, 2}}, 5, 35},   /* D is 0 */
+    {{{39, 1}, {0, 2}}, 5, 39},   /* the earliest delay is above 1,000,000 */
+    {{{39, 1}, {43, 1}}, 5, 39},  /* both are */
+    {{{43, 1}, {0, 2}}, 5, 43},   /* the latest alone is */
+    {{{42, 1}, {43, 1}}, 5, 43},
+    {{{42, 1}, {0, 2}}, 5, 43},   /* the earliest is 1, the latest 0 */
+    {{{21, 11}, {0, 2}}, 5, 22},  /* the earliest is 11, the latest 10 */
+    {{{38, 0}, {39, 1}}, 5, 35},  /* the delays are tested after D */
+    {{{26, 2}, {0, 2}}, 6, 26},   /* the priority is that of the record before */
+    {{{26, 2}, {42, 1}}, 5, 43},  /* the priority is tested last */
+    {{{5, 0}, {39, 1}}, 6, 5},    /* but before the next record */
+    {{{53, 2}, {0, 2}}, 7, 53},   /* the place is n */
+    {{{54, 17}, {0, 2}}, 7, 54},  /* the semaphore is 17 */
+    {{{58, 16}, {0, 2}}, 7, 55},  /* the length is C + 1 */
+    {{{53, 0}, {58, 10}}, 7, 53}, /* as the row before it */
+};
+
+/* A copy of the bytes in room for that many, the further ones 0. */
+static uint8_t *copy_bytes(const uint8_t *bytes, size_t length, size_t room)
+{
+    uint8_t *copy = calloc(room, 1);
+
+    if (!copy) {
         perror("memory");
         exit(1);
     }
-    for (size_t i = 0; i < sizeof faults / sizeof faults[0]; i++) {
-        uint64_t wanted = (uint64_t)faults[i].refusal << 32 | faults[i].place;
-        struct outcome outcome;
-        struct played played;
+    memcpy(copy, bytes, length);
+    return copy;
+}
 
-        memcpy(bytes, table.bytes, table.length);
-        for (size_t k = 0; k < 2; k++)
-            bytes[faults[i].changes[k].at] = faults[i].changes[k].to;
-        outcome = compare("fault", i, faulty, 32, 32);
-        compare_play("fault", i, faulty, 32);
-        call_engine(ulmerascio_play, faulty, 32, &played);
-        if (outcome.verdict != wanted || played.verdict != wanted) {
-            printf("c: fault %lu: verdict %llx, played %llx, not %llx\n", (unsigned long)i,
-                   (unsigned long long)outcome.verdict, (unsigned long long)played.verdict,
-                   (unsigned long long)wanted);
-            exit(1);
-        }
+/* The analysis and the engine, ours and plain C's, are to give this verdict. */
+static void expect(const char *what, size_t number, struct table table, uint64_t wanted)
+{
+    struct outcome outcome = compare(what, number, table, 32, 32);
+    struct played played;
+
+    compare_play(what, number, table, 32);
+    call_engine(ulmerascio_play, table, 32, &played);
+    if (outcome.verdict != wanted || played.verdict != wanted) {
+        printf("c: %s %lu: verdict %llx, played %llx, not %llx\n", what, (unsigned long)number,
+               (unsigned long long)outcome.verdict, (unsigned long long)played.verdict,
+               (unsigned long long)wanted);
+        exit(1);
     }
-    free(bytes);
+}
+
+static void try_places(const char *what, struct table table, const struct fault *list,
+                       size_t count)
+{
+    for (size_t i = 0; i < count; i++) {
+        uint8_t *bytes = copy_bytes(table.bytes, table.length, table.length);
+
+        for (size_t k = 0; k < 2; k++)
+            bytes[list[i].changes[k].at] = list[i].changes[k].to;
+        expect(what, i, (struct table){bytes, table.length},
+               (uint64_t)list[i].refusal << 32 | list[i].place);
+        free(bytes);
+    }
 }
 
 /* A lent length that a 16-bit word cuts to the stated one is still not equal to it. */
 static void try_far_too_long(size_t number, struct table table)
 {
     size_t length = table.length + 65536;
-    uint8_t *bytes = calloc(length, 1);
+    uint8_t *bytes = copy_bytes(table.bytes, table.length, length);
 
-    if (!bytes) {
-        perror("memory");
+    expect("table longer by 65536", number, (struct table){bytes, length}, (uint64_t)4 << 32);
+    free(bytes);
+}
+
+/* "With delays 10 and 10 on its first task, 01's jitter table gives 20 and 25." A constant delay
+ * is one that the engine refuses. */
+static void try_delays(void)
+{
+    struct table table = {delays_table, sizeof delays_table};
+    struct outcome outcome = compare("table with delays", 0, table, 2, 2);
+    struct played played;
+
+    compare_play("table with delays", 0, table, 2);
+    call_engine(ulmerascio_play, table, 2, &played);
+    if (outcome.verdict != 0 || outcome.answers[GUARD] != 20 || outcome.answers[GUARD + 1] != 25
+        || outcome.rounds[GUARD] != 1 || outcome.rounds[GUARD + 1] != 2
+        || played.verdict != (uint64_t)9 << 32) {
+        printf("c: the table with delays gets wrong answers\n");
         exit(1);
     }
-    memcpy(bytes, table.bytes, table.length);
-    compare("table longer by 65536", number, (struct table){bytes, length}, 32, 32);
-    compare_play("table longer by 65536", number, (struct table){bytes, length}, 32);
+    try_slice_lengths(0, table, &outcome);
+    try_far_too_long(0, table);
+    try_places("fault of delays", (struct table){delays_and_rows, sizeof delays_and_rows},
+               delay_faults, sizeof delay_faults / sizeof delay_faults[0]);
+}
+
+static uint8_t *write_word(uint8_t *at, uint32_t word)
+{
+    for (int shift = 24; shift >= 0; shift -= 8)
+        *at++ = (uint8_t)(word >> shift);
+    return at;
+}
+
+/* Version 2 with 32 tasks and 64 rows, in room for one byte more, which is 0. */
+static uint8_t *longest_table(void)
+{
+    static const uint8_t head[] = {2, 1061 / 256, 1061 % 256, 32, 64};
+    uint8_t *bytes = copy_bytes(head, sizeof head, ULMERASCIO_LONGEST_TABLE + 1);
+    uint8_t *at = bytes + sizeof head;
+
+    for (uint32_t i = 0; i < 32; i++) {
+        *at++ = (uint8_t)(32 - i);
+        at = write_word(at, 1000 + i);
+        at = write_word(at, 3);
+        at = write_word(at, 1000 + i);
+        at = write_word(at, 5);
+        at = write_word(at, 5 + i);
+    }
+    for (uint32_t r = 0; r < 64; r++) {
+        *at++ = (uint8_t)(r / 2);
+        *at++ = r % 2 ? 16 : 1;
+        at = write_word(at, 2 + r % 2);
+    }
+    return bytes;
+}
+
+/* 1,061 bytes are taken, one less or more is refused; and every byte is changed once. */
+static void try_longest(void)
+{
+    uint8_t *bytes = longest_table();
+    struct table table = {bytes, ULMERASCIO_LONGEST_TABLE};
+
+    if (compare("longest table", 0, table, 32, 32).verdict != 0) {
+        printf("c: the longest table is not schedulable\n");
+        exit(1);
+    }
+    expect("table of 1060 bytes", 0, (struct table){bytes, 1060}, (uint64_t)4 << 32);
+    expect("table of 1062 bytes", 0, (struct table){bytes, 1062}, (uint64_t)4 << 32);
+    bytes[2] = 1062 % 256;
+    expect("table of 1062 bytes", 1, (struct table){bytes, 1062}, (uint64_t)4 << 32);
+    bytes[2] = 1061 % 256;
+    for (size_t i = 0; i < table.length; i++) {
+        uint8_t old = bytes[i];
+
+        bytes[i] = old ^ 0xFF;
+        compare("longest table with another byte", i, table, 32, 32);
+        compare_play("longest table with another byte", i, table, 32);
+        bytes[i] = old;
+    }
     free(bytes);
 }
 
@@ -346,13 +481,15 @@ int main(int count, char **words)
         if (number == FIFTH_TABLE)
             try_far_too_long(number, table);
         if (number == SECTIONS_TABLE)
-            try_places(table);
+            try_places("fault", table, faults, sizeof faults / sizeof faults[0]);
     }
     if (number <= WORKED_TABLES) {
         printf("c: only %lu entries\n", (unsigned long)number);
         return 1;
     }
     free(data);
+    try_delays();
+    try_longest();
     printf("c: %lu calls agree; %lu plays, %lu of them not refused\n", calls, plays, taken);
     return 0;
 }

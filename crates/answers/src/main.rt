@@ -4,7 +4,7 @@ use libc::STDOUT_FILENO;
 
 fn main() {
     // one byte more than the longest table, so that a longer input is seen to be too long
-    let mut input = [0u8; 934];
+    let mut input = [0u8; 1062];
     let length = io::read_full(STDIN_FILENO, &mut input);
     answer(&input[..length]);
 }

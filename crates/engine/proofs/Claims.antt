@@ -19,13 +19,14 @@ use Rattle.tables.specs.declared.Refusal.{Refusal}
 use Rattle.tables.specs.declared.Refusal.the-variants.{NotPlayable}
 use Rattle.tables.specs.declared.Check.{Check}
 use Rattle.tables.specs.declared.Check.the-variants as check
-use Rattle.tables.specs.Fields.{taskCountField}
-use Rattle.tables.specs.Layout.{taskCount, rowCount, tasksOf, tableOf, jitterIn}
+use Rattle.tables.specs.Fields.{taskCountField, latestField}
+use Rattle.tables.specs.Layout.{taskCount, rowCount, tasksOf, tableOf, latestIn}
 use Rattle.tables.specs.Refusals.{at, isClean}
 use Rattle.tables.specs.Checks.{roomCheck, tableCheck}
 use Rattle.tables.specs.Meaning.{TableRight, RoomFor}
+use Rattle.tables.proofs.LayoutLaws.{layout-sound}
 use Rattle.tables.proofs.CheckLaws.{table-deserved, table-gives, table-right, table-clean}
-use Rattle.runs.specs.Jobs.{NoJitter}
+use Rattle.runs.specs.Jobs.{NoDelay}
 use Rattle.response.specs.declared.Verdict.the-variants as verdict
 use Rattle.response.specs.Verdicts.{verdictPlace, isSchedulable}
 use Rattle.response.specs.Analysis.{answerOf}
@@ -42,19 +43,22 @@ use Rattle.engine.proofs.PlayedLaws.{table-decides, not-plain, plain-cl
 
 -- the test for a plain table passes exactly where the table is plain
 module _ (bytes : List ℕ) where
-  plain-means : isPlain bytes ≡ true → Plain bytes
-  plain-means p =
+  plain-means : TableRight bytes → isPlain bytes ≡ true → Plain bytes
+  plain-means right p =
       let b = both-true (eqb (rowCount bytes) 0) _ p in
-      let none = eqb-true (largestTo (jitterIn bytes) (taskCount bytes)) 0 (b .1) in
+      let none = eqb-true (largestTo (latestIn bytes) (taskCount bytes)) 0 (b .1) in
+      let noLatest : (i : ℕ) → i < taskCount bytes → latestIn bytes i ≡ 0 =
+      λ i h. omega (arith, none, largest-low (latestIn bytes) (taskCount bytes) i h) in
       record {
         noRow = eqb-true (rowCount bytes) 0 (b .0);
-        noJitter = λ i h. omega (arith, none, largest-low (jitterIn bytes) (taskCount bytes) i h);
+        noEarliest = λ i h. omega (arith, noLatest i h, right .records i h latestField .low);
+        noLatest = noLatest;
       }
 
   plain-holds : Plain bytes → isPlain bytes ≡ true
   plain-holds plain =
-      let none = largest-high (jitterIn bytes) (taskCount bytes) 0 (λ i h. omega (arith, plain .noJitter i h)) in
-      both-pass (eq-eqb (rowCount bytes) 0 (plain .noRow)) (eq-eqb (largestTo (jitterIn bytes) (taskCount bytes)) 0 (omega (arith, none)))
+      let none = largest-high (latestIn bytes) (taskCount bytes) 0 (λ i h. omega (arith, plain .noLatest i h)) in
+      both-pass (eq-eqb (rowCount bytes) 0 (plain .noRow)) (eq-eqb (largestTo (latestIn bytes) (taskCount bytes)) 0 (omega (arith, none)))
 
 module _ (bytes : List ℕ) (room : ℕ) where
   -- a clean check does not refuse
@@ -82,7 +86,7 @@ module _ (bytes : List ℕ) (room : ℕ) where
   play-gives r (inl d) = table-decides bytes room r (table-gives bytes room room r d)
   play-gives r (inr d) =
       elim (bool? (isPlain bytes)) [
-        | inl p ↦ absurd (d .1 .notPlain (plain-means bytes p))
+        | inl p ↦ absurd (d .1 .notPlain (plain-means bytes (d .1 .right) p))
         | inr p ↦
             not-plain bytes room (table-clean bytes room room (d .1 .right) (d .1 .room)) p ∙ ap check.Refused (sym (d .0))
       ]
@@ -95,7 +99,7 @@ module _ (bytes : List ℕ) (room : ℕ) where
       go (check.Refused s) e = absurd (clean-passes s accepted (table-decides bytes room s e))
       go check.Clean e =
           elim (bool? (isPlain bytes)) [
-            | inl p ↦ let right = table-right bytes room room e in (right .0, right .1, plain-means bytes p)
+            | inl p ↦ let right = table-right bytes room room e in (right .0, right .1, plain-means bytes (right .0) p)
             | inr p ↦ absurd (clean-passes NotPlayable accepted (not-plain bytes room e p))
           ]
 
@@ -149,17 +153,18 @@ playRefusals =
 
 -- the tasks of a table that breaks no rule are at most 32
 few : (bytes : List ℕ) → TableRight bytes → length (tasksOf bytes) ≤ 32
-few bytes right = omega (arith, tasks-count bytes, right .head .counts taskCountField .high)
+few bytes right =
+    omega (arith, tasks-count bytes, right .head .counts taskCountField .high, layout-sound bytes (right .head .version) .few)
 
 pub tableEveryTick : TableEveryTick
 tableEveryTick bytes right = everyTick (tasksOf bytes) (tasks-fit bytes (right .records)) (few bytes right)
 
 module _ (bytes : List ℕ) (right : TableRight bytes) (plain : Plain bytes) where
-  -- the tasks of a plain table have no jitter
-  calm : NoJitter (tasksOf bytes)
+  -- the tasks of a plain table have no delay
+  calm : NoDelay (tasksOf bytes)
   calm i h =
       let inside : i < taskCount bytes = omega (arith, tasks-count bytes) in
-      ap (λ (t : Task). t .jitter) (task-is bytes i inside) ∙ plain .noJitter i inside
+      ap (λ (t : Task). t .latest) (task-is bytes i inside) ∙ plain .noLatest i inside
 
   -- so the engine's answers are the analysis's
   same-answer : (i : ℕ) → i < taskCount bytes → engineAnswer (tasksOf bytes) i ≡ answerOf (tableOf bytes) i
@@ -227,7 +232,8 @@ play-place bytes answers = go (playCheck bytes answers) refl
         omega (
           arith,
           result-place (engineAnswer (tasksOf bytes)) (taskCount bytes),
-          play-right bytes answers e .0 .head .counts taskCountField .high,
+          few bytes (play-right bytes answers e .0),
+          tasks-count bytes,
         )
     go (check.Refused r) e =
         elim (play-deserved bytes answers r e) [

@@ -19,10 +19,11 @@ use Rattle.tables.specs.declared.Refusal.{Refusal}
 use Rattle.tables.specs.declared.Refusal.the-variants.{NoRoom, NotPlayable}
 use Rattle.tables.specs.declared.Check.the-variants as check
 use Rattle.tables.specs.Fields.{taskCountField, periodField, costField, deadlineField}
-use Rattle.tables.specs.Layout.{taskCount, rowCount, tasksOf, jitterIn}
+use Rattle.tables.specs.Layout.{taskCount, rowCount, tasksOf, latestIn}
 use Rattle.tables.specs.Refusals.{at, firstIn, orElse, unless}
 use Rattle.tables.specs.Checks.{headCheck, recordsCheck, rowsCheck, tableCheck}
 use Rattle.tables.specs.Meaning.{HeadRight, RecordsRight}
+use Rattle.tables.proofs.LayoutLaws.{layout-sound}
 use Rattle.tables.proofs.CheckLaws.{head-right, records-right}
 use Rattle.tables.proofs.OrderLaws.{head-decides, records-decide, rows-decide, room-decides, all-pass}
 use Rattle.machine.specs.Machine.{played}
@@ -77,19 +78,19 @@ module _ (bytes : List ℕ) (room : ℕ) where
       pub has-rows : (m : ℕ) → n ≤ room → (m ≡ rowCount bytes) × (1 ≤ m) → check.Refused NotPlayable ≡ playCheck bytes room
       has-rows m h some = sym (not-plain (clean h) (rw (ne-eqb (rowCount bytes) 0 (λ e. omega (arith, some .0, some .1)))))
 
-      -- nor can jitter
-      pub has-jitter : n ≤ room → ¬ (largestTo (jitterIn bytes) (taskCount bytes) ≡ 0) → check.Refused NotPlayable ≡ playCheck bytes room
-      has-jitter h some =
+      -- nor can delays
+      pub has-delay : n ≤ room → ¬ (largestTo (latestIn bytes) (taskCount bytes) ≡ 0) → check.Refused NotPlayable ≡ playCheck bytes room
+      has-delay h some =
           sym
           (not-plain (clean h)
-          (both-fail (eqb (rowCount bytes) 0) (eqb (largestTo (jitterIn bytes) (taskCount bytes)) 0)
-          (ne-eqb (largestTo (jitterIn bytes) (taskCount bytes)) 0 some)))
+          (both-fail (eqb (rowCount bytes) 0) (eqb (largestTo (latestIn bytes) (taskCount bytes)) 0)
+          (ne-eqb (largestTo (latestIn bytes) (taskCount bytes)) 0 some)))
 
       -- what has neither is played
-      pub plays : n ≤ room → rowCount bytes ≡ 0 → largestTo (jitterIn bytes) (taskCount bytes) ≡ 0 → playCheck bytes room ≡ check.Clean
+      pub plays : n ≤ room → rowCount bytes ≡ 0 → largestTo (latestIn bytes) (taskCount bytes) ≡ 0 → playCheck bytes room ≡ check.Clean
       plays h bare calm =
           plain-clean (clean h)
-          (both-pass (eq-eqb (rowCount bytes) 0 bare) (eq-eqb (largestTo (jitterIn bytes) (taskCount bytes)) 0 calm))
+          (both-pass (eq-eqb (rowCount bytes) 0 bare) (eq-eqb (largestTo (latestIn bytes) (taskCount bytes)) 0 calm))
 
 module _ (bytes answers : List ℕ) where
   -- a refusal leaves the slice as it was
@@ -105,19 +106,19 @@ module _ (bytes answers : List ℕ) where
   records-refused r head e =
       refused r (sym (table-decides bytes (length answers) r (records-decide bytes (length answers) (length answers) head r e)))
 
--- four of the five slices that hold the records
-pub numbers-held : (bytes : List ℕ) (n : ℕ) (priorities periods costs deadlines jitters : List ℕ) →
-    RecordsHeld bytes n priorities periods costs deadlines jitters → NumbersHeld bytes n periods costs deadlines jitters
-numbers-held bytes n priorities periods costs deadlines jitters held =
+-- four of the six slices that hold the records
+pub numbers-held : (bytes : List ℕ) (n : ℕ) (priorities periods costs deadlines spreads latest : List ℕ) →
+    RecordsHeld bytes n priorities periods costs deadlines spreads latest → NumbersHeld bytes n periods costs deadlines latest
+numbers-held bytes n priorities periods costs deadlines spreads latest held =
     record {
       read = record { head = held .head; records = held .records; counted = held .counted };
       periodsHeld = held .periodsHeld;
       costsHeld = held .costsHeld;
       deadlinesHeld = held .deadlinesHeld;
-      jittersHeld = held .jittersHeld;
+      latestHeld = held .latestHeld;
     }
 
-module _ (bytes : List ℕ) (n : ℕ) (periods costs deadlines jitters : List ℕ) (held : NumbersHeld bytes n periods costs deadlines jitters) where
+module _ (bytes : List ℕ) (n : ℕ) (periods costs deadlines latest : List ℕ) (held : NumbersHeld bytes n periods costs deadlines latest) where
   head : HeadRight bytes
   head = head-right bytes (held .read .head)
 
@@ -132,7 +133,7 @@ module _ (bytes : List ℕ) (n : ℕ) (periods costs deadlines jitters : List �
   tasks-held =
       record {
         some = omega (arith, head .counts taskCountField .low, held .read .counted);
-        few = omega (arith, head .counts taskCountField .high, held .read .counted);
+        few = omega (arith, head .counts taskCountField .high, layout-sound bytes (head .version) .few, held .read .counted);
         periodsLong = held .periodsHeld .long;
         costsLong = held .costsHeld .long;
         periodLow = λ p h. rw (held .periodsHeld .read p h) (right p (inside h) periodField .low);
@@ -149,10 +150,10 @@ module _ (bytes : List ℕ) (n : ℕ) (periods costs deadlines jitters : List �
             rw (held .periodsHeld .read p h, held .deadlinesHeld .read p h) (right p (inside h) deadlineField .high);
       }
 
-  -- the largest jitter
-  pub jitter-is : largestTo (wordOf jitters) n ≡ largestTo (jitterIn bytes) (taskCount bytes)
-  jitter-is =
-      largest-same (wordOf jitters) (jitterIn bytes) n (held .jittersHeld .read) ∙ ap (largestTo (jitterIn bytes)) (held .read .counted)
+  -- the largest delay
+  pub delay-is : largestTo (wordOf latest) n ≡ largestTo (latestIn bytes) (taskCount bytes)
+  delay-is =
+      largest-same (wordOf latest) (latestIn bytes) n (held .latestHeld .read) ∙ ap (largestTo (latestIn bytes)) (held .read .counted)
 
   -- the play of the slices is the play of the table's tasks
   same-answer : (i : ℕ) → i < n → played (wordOf periods) (wordOf costs) n (wordOf deadlines) i ≡ engineAnswer (tasksOf bytes) i
@@ -172,17 +173,17 @@ module _ (bytes : List ℕ) (n : ℕ) (periods costs deadlines jitters : List �
     pub no-room-left : length answers < n → Played bytes answers (verdict.Refused NoRoom) answers
     no-room-left h = refused bytes answers NoRoom (too-short bytes (length answers) n (held .read) none h)
 
-    pub jitter-refused : n ≤ length answers → ¬ (largestTo (wordOf jitters) n ≡ 0) → Played bytes answers (verdict.Refused NotPlayable) answers
-    jitter-refused room some =
+    pub delay-refused : n ≤ length answers → ¬ (largestTo (wordOf latest) n ≡ 0) → Played bytes answers (verdict.Refused NotPlayable) answers
+    delay-refused room some =
         refused bytes answers NotPlayable
-        (has-jitter bytes (length answers) n (held .read) none room (λ e. some (jitter-is ∙ e)))
+        (has-delay bytes (length answers) n (held .read) none room (λ e. some (delay-is ∙ e)))
 
-    pub all-played : n ≤ length answers → (left : List ℕ) (v : Verdict) → largestTo (wordOf jitters) n ≡ 0 →
+    pub all-played : n ≤ length answers → (left : List ℕ) (v : Verdict) → largestTo (wordOf latest) n ≡ 0 →
         left ≡ filled (played (wordOf periods) (wordOf costs) n (wordOf deadlines)) n answers → v ≡ resultOf (wordOf left) n →
         Played bytes answers v left
     unfolding playVerdict playWords
     all-played room left v calm are result =
-        let clean = plays bytes (length answers) n (held .read) none room bare (sym jitter-is ∙ calm) in
+        let clean = plays bytes (length answers) n (held .read) none room bare (sym delay-is ∙ calm) in
         record {
           verdictIs =
               rw clean

@@ -19,7 +19,7 @@ use Rattle.equation.specs.Rounding.{ceilDiv}
 use Rattle.equation.proofs.Laws.{roundingUp, answerMeans}
 use Rattle.machine.specs.Machine.{State, isDue, isDone, played}
 use Rattle.machine.proofs.MachineLaws.{inTick, first-held, left-step, due-is, ready-bits, next-none, next-is}
-use Rattle.runs.specs.Jobs.{Job, jobOf, TasksFit, NoJitter}
+use Rattle.runs.specs.Jobs.{Job, jobOf, TasksFit, NoDelay}
 use Rattle.runs.specs.Schedule.{Service, idle, serves, Schedule, LegalSchedule}
 use Rattle.runs.specs.Scheduler.{scheduleOf}
 use Rattle.runs.specs.Statement.{responseOf}
@@ -146,7 +146,7 @@ firstJobDone tasks fit few ticks s law i j isTask first x low short h =
     let done = first-done tasks fit ticks s law i j x isTask first low (omega (arith, fit .deadlineHigh i isTask)) h in
     record { finished = λ e. done .0 (sym same ∙ e); noWork = λ finished. same ∙ done .1 finished }
 
-module _ (tasks : List Task) (fit : TasksFit tasks) (calm : NoJitter tasks) (few : length tasks ≤ 32) (i : ℕ) (isTask : i < length tasks) where
+module _ (tasks : List Task) (fit : TasksFit tasks) (calm : NoDelay tasks) (few : length tasks ≤ 32) (i : ℕ) (isTask : i < length tasks) where
   -- its deadline, its answer, and the test that the engine searches by
   abbrev deadline : ℕ
   deadline = taskOf tasks i .deadline

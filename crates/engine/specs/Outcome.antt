@@ -10,16 +10,16 @@ use Rattle.model.specs.Choice.{both}
 use Rattle.model.specs.Lists.{filled, largestTo}
 use Rattle.tables.specs.declared.Refusal.the-variants.{NotPlayable}
 use Rattle.tables.specs.declared.Check.{Check}
-use Rattle.tables.specs.Layout.{taskCount, rowCount, tasksOf, jitterIn}
+use Rattle.tables.specs.Layout.{taskCount, rowCount, tasksOf, latestIn}
 use Rattle.tables.specs.Refusals.{unless, firstIn}
 use Rattle.tables.specs.Checks.{tableCheck}
 use Rattle.response.specs.declared.Verdict.{Verdict}
 use Rattle.response.specs.Outcome.{resultOf, verdictFor, wordsAfter}
 use Rattle.engine.specs.Run.{engineAnswer}
 
--- no row, and no jitter above 0
+-- no row, and no latest delay above 0 (so no earliest either, which is at most the latest)
 abbrev pub isPlain : List ℕ → Bool
-isPlain bytes = both (eqb (rowCount bytes) 0) (eqb (largestTo (jitterIn bytes) (taskCount bytes)) 0)
+isPlain bytes = both (eqb (rowCount bytes) 0) (eqb (largestTo (latestIn bytes) (taskCount bytes)) 0)
 
 -- "Any nonzero jitter or delay, or any row, gets a new refusal 9, after 8, place 0": the analysis's checks, with the one slice for both
 -- of its slices, and then that one

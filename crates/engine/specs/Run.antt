@@ -8,7 +8,7 @@ use lib.ListN.{length}
 use Rattle.model.specs.Choice.{both, on}
 use Rattle.model.specs.Tables.{Task, taskOf}
 use Rattle.machine.specs.Machine.{State, after, bitOf, placeServed, played}
-use Rattle.runs.specs.Jobs.{jobOf, TasksFit, NoJitter}
+use Rattle.runs.specs.Jobs.{jobOf, TasksFit, NoDelay}
 use Rattle.runs.specs.Schedule.{Schedule, serves, idle, Finished, LegalSchedule}
 use Rattle.runs.specs.Statement.{responseOf}
 use Rattle.runs.specs.Synchronous.{synchronous, workLeft, FirstJob}
@@ -69,5 +69,5 @@ FirstJobDone =
 -- "and to give the equation's answers"
 abbrev pub PlayedIsAnswer : Type 0
 PlayedIsAnswer =
-    (tasks : List Task) → TasksFit tasks → NoJitter tasks → length tasks ≤ 32 →
+    (tasks : List Task) → TasksFit tasks → NoDelay tasks → length tasks ≤ 32 →
     (i : ℕ) → i < length tasks → engineAnswer tasks i ≡ responseOf tasks i

@@ -4,7 +4,7 @@ use Prim.Native.Nat.{ℕ}
 use mathlib.Core.Path.{_≡_}
 use mathlib.Core.List.{List}
 use Rattle.tables.specs.declared.Check.the-variants.{Clean}
-use Rattle.tables.specs.Layout.{taskCount, periodIn, costIn, deadlineIn, jitterIn}
+use Rattle.tables.specs.Layout.{taskCount, periodIn, costIn, deadlineIn, latestIn}
 use Rattle.tables.specs.Checks.{headCheck, recordsCheck}
 use Rattle.response.specs.Stages.{Holds}
 
@@ -15,9 +15,9 @@ pub record RecordsRead (bytes : List ℕ) (n : ℕ) : Type 0 where
   pub counted : n ≡ taskCount bytes
 
 -- and four slices hold the records' numbers
-pub record NumbersHeld (bytes : List ℕ) (n : ℕ) (periods costs deadlines jitters : List ℕ) : Type 0 where
+pub record NumbersHeld (bytes : List ℕ) (n : ℕ) (periods costs deadlines latest : List ℕ) : Type 0 where
   pub read : RecordsRead bytes n
   pub periodsHeld : Holds periods n (periodIn bytes)
   pub costsHeld : Holds costs n (costIn bytes)
   pub deadlinesHeld : Holds deadlines n (deadlineIn bytes)
-  pub jittersHeld : Holds jitters n (jitterIn bytes)
+  pub latestHeld : Holds latest n (latestIn bytes)

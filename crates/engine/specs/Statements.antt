@@ -9,7 +9,7 @@ use lib.ListN.{length}
 use Rattle.model.specs.Lists.{filled}
 use Rattle.tables.specs.declared.Refusal.{Refusal}
 use Rattle.tables.specs.declared.Refusal.the-variants.{NotPlayable}
-use Rattle.tables.specs.Layout.{taskCount, rowCount, tasksOf, tableOf, jitterIn}
+use Rattle.tables.specs.Layout.{taskCount, rowCount, tasksOf, tableOf, earliestIn, latestIn}
 use Rattle.tables.specs.Meaning.{TableRight, RoomFor}
 use Rattle.tables.specs.Deserved.{Deserved}
 use Rattle.runs.specs.Schedule.{Schedule, LegalSchedule}
@@ -21,10 +21,11 @@ use Rattle.response.specs.Outcome.{Outcome, resultOf}
 use Rattle.engine.specs.Run.{AsInRun}
 use Rattle.engine.specs.Outcome.{Played}
 
--- "Any nonzero jitter or delay, or any row" is what a table must not have
+-- "Any nonzero jitter or delay, or any row" is what a table must not have; a constant delay is one too
 pub record Plain (bytes : List ℕ) : Type 0 where
   pub noRow : rowCount bytes ≡ 0
-  pub noJitter : (i : ℕ) → i < taskCount bytes → jitterIn bytes i ≡ 0
+  pub noEarliest : (i : ℕ) → i < taskCount bytes → earliestIn bytes i ≡ 0
+  pub noLatest : (i : ℕ) → i < taskCount bytes → latestIn bytes i ≡ 0
 
 -- 9, "after 8": the table breaks no rule, there is room, and it is not plain
 pub record CannotPlay (bytes : List ℕ) (answers : ℕ) : Type 0 where

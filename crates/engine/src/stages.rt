@@ -3,10 +3,10 @@ ghost use mathlib.Core.Path.{_≡_};
 ghost use Prim.Native.Nat.{_≤_};
 ghost use lib.ListN.{length};
 ghost use Rattle.model.specs.Lists.{wordOf};
-ghost use Rattle.tables.specs.Layout.{rowCount, taskAt, costIn};
+ghost use Rattle.tables.specs.Layout.{layoutOf, rowCount, taskAt, costIn};
 ghost use Rattle.tables.specs.declared.Check.the-variants as check;
 ghost use Rattle.tables.specs.Checks.{headCheck, recordCheck};
-ghost use Rattle.tables.specs.Reading.{taskFrom};
+ghost use Rattle.tables.specs.Reading.{taskFrom, NumbersRead, numbersFault};
 ghost use Rattle.response.specs.Outcome.{resultOf};
 ghost use Rattle.response.specs.Stages.{Holds};
 ghost use Rattle.engine.specs.Outcome.{Played, playCheck};
@@ -20,7 +20,11 @@ use tables::HEAD_SIZE;
 use tables::ROW_COUNT_AT;
 use tables::Refusal;
 use tables::TASK_COUNT_AT;
+use tables::VERSION_AT;
 use tables::fields::count;
+use tables::layout::Layout;
+use tables::records::ABOVE_EVERY_PRIORITY;
+use tables::records::Delays;
 use tables::records::TaskRecord;
 
 // The head is right: looks at the first record before room is made for all.
@@ -28,19 +32,55 @@ pub fn after_head(table: &[u8], answers: &mut [u32]) -> Verdict
     requires { ⌜ headCheck (now table) ≡ check.Clean ⌝ }
     ensures { λ r. ⌜ Played (now (table .entry)) (now (answers .entry)) r (now (answers .exit)) ⌝ }
 {
-    let task = tables::records::read(table, HEAD_SIZE);
-    let checked = tables::records::check_first(task);
+    let layout = tables::layout::of(table[VERSION_AT]);
+    let first = tables::records::read(table, HEAD_SIZE);
+    let checked = tables::records::check_numbers(first, HEAD_SIZE);
     match checked {
-        Check::Clean => after_first(table, task, answers),
+        Check::Clean => after_numbers(table, layout, first, answers),
+        Check::Refused(refusal) => Verdict::Refused(refusal),
+    }
+}
+
+// The first record's T, C and D are right: looks at what stands behind them.
+pub fn after_numbers(
+    table: &[u8],
+    layout: Layout,
+    first: TaskRecord,
+    answers: &mut [u32],
+) -> Verdict
+    requires { ⌜ layout ≡ layoutOf (now table) ⌝ }
+    requires { ⌜ headCheck (now table) ≡ check.Clean ⌝ }
+    requires { ⌜ NumbersRead (now table) 5 first ⌝ }
+    requires { ⌜ numbersFault first 5 ≡ check.Clean ⌝ }
+    ensures { λ r. ⌜ Played (now (table .entry)) (now (answers .entry)) r (now (answers .exit)) ⌝ }
+{
+    let delays = tables::records::read_delays(table, layout, HEAD_SIZE);
+    let checked = tables::records::check_rest(
+        delays,
+        first.priority,
+        layout,
+        HEAD_SIZE,
+        ABOVE_EVERY_PRIORITY,
+    );
+    match checked {
+        Check::Clean => after_first(table, layout, first, delays, answers),
         Check::Refused(refusal) => Verdict::Refused(refusal),
     }
 }
 
 // The first record is right: reads the others.
-pub fn after_first(table: &[u8], first: TaskRecord, answers: &mut [u32]) -> Verdict
+pub fn after_first(
+    table: &[u8],
+    layout: Layout,
+    first: TaskRecord,
+    delays: Delays,
+    answers: &mut [u32],
+) -> Verdict
+    requires { ⌜ layout ≡ layoutOf (now table) ⌝ }
     requires { ⌜ headCheck (now table) ≡ check.Clean ⌝ }
     requires { ⌜ recordCheck (now table) 0 ≡ check.Clean ⌝ }
-    requires { ⌜ taskFrom first ≡ taskAt (now table) 0 ⌝ }
+    requires { ⌜ taskFrom first delays ≡ taskAt (now table) 0 ⌝ }
+    requires { ⌜ delays .earliest .0 ≤ delays .latest .0 ⌝ }
     ensures { λ r. ⌜ Played (now (table .entry)) (now (answers .entry)) r (now (answers .exit)) ⌝ }
 {
     let n = count(table[TASK_COUNT_AT]);
@@ -48,23 +88,36 @@ pub fn after_first(table: &[u8], first: TaskRecord, answers: &mut [u32]) -> Verd
     let mut periods = [0u32; 32];
     let mut costs = [0u32; 32];
     let mut deadlines = [0u32; 32];
-    let mut jitters = [0u32; 32];
+    let mut spreads = [0u32; 32];
+    let mut latest = [0u32; 32];
     priorities[0] = first.priority.0;
     periods[0] = first.period.0;
     costs[0] = first.cost.0;
     deadlines[0] = first.deadline.0;
-    jitters[0] = first.jitter.0;
+    spreads[0] = tables::records::spread(delays).0;
+    latest[0] = delays.latest.0;
     let checked = tables::records::read_rest(
         table,
+        layout,
         n,
         &mut priorities,
         &mut periods,
         &mut costs,
         &mut deadlines,
-        &mut jitters,
+        &mut spreads,
+        &mut latest,
     );
     match checked {
-        Check::Clean => after_records(table, n, &periods, &costs, &deadlines, &jitters, answers),
+        Check::Clean => after_records(
+            table,
+            layout,
+            n,
+            &periods,
+            &costs,
+            &deadlines,
+            &latest,
+            answers,
+        ),
         Check::Refused(refusal) => Verdict::Refused(refusal),
     }
 }
@@ -72,26 +125,36 @@ pub fn after_first(table: &[u8], first: TaskRecord, answers: &mut [u32]) -> Verd
 // The records are right: a table with rows is refused, one way or another.
 pub fn after_records(
     table: &[u8],
+    layout: Layout,
     n: usize,
     periods: &[u32],
     costs: &[u32],
     deadlines: &[u32],
-    jitters: &[u32],
+    latest: &[u32],
     answers: &mut [u32],
 ) -> Verdict
-    requires { ⌜ NumbersHeld (now table) n (now periods) (now costs) (now deadlines) (now jitters) ⌝ }
+    requires { ⌜ layout ≡ layoutOf (now table) ⌝ }
+    requires { ⌜ NumbersHeld (now table) n (now periods) (now costs) (now deadlines) (now latest) ⌝ }
     ensures { λ r. ⌜ Played (now (table .entry)) (now (answers .entry)) r (now (answers .exit)) ⌝ }
 {
     let m = count(table[ROW_COUNT_AT]);
     if m == 0 {
-        return without_rows(table, n, periods, costs, deadlines, jitters, answers);
+        return without_rows(table, n, periods, costs, deadlines, latest, answers);
     }
-    let refusal = with_rows(table, n, m, costs, answers.len());
+    let refusal = with_rows(table, layout, n, m, costs, answers.len());
     Verdict::Refused(refusal)
 }
 
 // Rows that are wrong come first, then the room; rows that are right cannot be played.
-pub fn with_rows(table: &[u8], n: usize, m: usize, costs: &[u32], room: usize) -> Refusal
+pub fn with_rows(
+    table: &[u8],
+    layout: Layout,
+    n: usize,
+    m: usize,
+    costs: &[u32],
+    room: usize,
+) -> Refusal
+    requires { ⌜ layout ≡ layoutOf (now table) ⌝ }
     requires { ⌜ RecordsRead (now table) n ⌝ }
     requires { ⌜ Holds (now costs) n (costIn (now table)) ⌝ }
     requires { ⌜ (m ≡ rowCount (now table)) × (1 ≤ m) ⌝ }
@@ -102,6 +165,7 @@ pub fn with_rows(table: &[u8], n: usize, m: usize, costs: &[u32], room: usize) -
     let mut longest = [0u32; 64];
     let checked = tables::rows::read_all(
         table,
+        layout,
         n,
         m,
         costs,
@@ -120,25 +184,25 @@ pub fn with_rows(table: &[u8], n: usize, m: usize, costs: &[u32], room: usize) -
     }
 }
 
-// No rows: looks at the room, then for jitter, and plays.
+// No rows: looks at the room, then for delays, and plays. No earliest delay is above its latest.
 pub fn without_rows(
     table: &[u8],
     n: usize,
     periods: &[u32],
     costs: &[u32],
     deadlines: &[u32],
-    jitters: &[u32],
+    latest: &[u32],
     answers: &mut [u32],
 ) -> Verdict
-    requires { ⌜ NumbersHeld (now table) n (now periods) (now costs) (now deadlines) (now jitters) ⌝ }
+    requires { ⌜ NumbersHeld (now table) n (now periods) (now costs) (now deadlines) (now latest) ⌝ }
     requires { ⌜ rowCount (now table) ≡ 0 ⌝ }
     ensures { λ r. ⌜ Played (now (table .entry)) (now (answers .entry)) r (now (answers .exit)) ⌝ }
 {
     if answers.len() < n {
         return Verdict::Refused(Refusal::NoRoom);
     }
-    let jitter = largest(jitters, n);
-    if jitter.0 != 0 {
+    let delay = largest(latest, n);
+    if delay.0 != 0 {
         return Verdict::Refused(Refusal::NotPlayable);
     }
     play_all(periods, costs, deadlines, n, answers);

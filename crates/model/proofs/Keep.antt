@@ -3,9 +3,9 @@
 use Prim.Native.Nat.{ℕ, zero, suc, _≤_, _<_}
 use native.Mathlib.Omega.{arith}
 use native.Mathlib.Decide.{ℕ-discrete}
-use mathlib.Core.Path.{_≡_, refl, sym, _∙_, ap, subst}
+use mathlib.Core.Path.{_≡_, refl, sym, _∙_, ap}
 use mathlib.Core.Bool.{Bool, true, false}
-use mathlib.Core.Logic.{_⊎_, inl, inr}
+use mathlib.Core.Logic.{inl, inr}
 use mathlib.Core.List.{List, [], _∷_, _++_, map, map-append, append-nil}
 use Rattle.model.specs.Lists.{tabulate, keep}
 use Rattle.model.proofs.Tests.{bool?}
@@ -49,3 +49,22 @@ unfolding tabulate
 map-tabulate g f h zero same = refl
 map-tabulate g f h (suc n) same =
     map-append g (tabulate f n) (f n ∷ []) ∙ rw (map-tabulate g f h n (λ k l. same k (omega arith)), same n (omega arith))
+
+-- two functions that agree on every element of a list agree on what is kept of it
+pub map-keep-same : {A B : Type 0} (test : A → Bool) (g h : A → B) (f : ℕ → A) (n : ℕ) → ((k : ℕ) → g (f k) ≡ h (f k)) →
+    map g (keep test (tabulate f n)) ≡ map h (keep test (tabulate f n))
+unfolding tabulate keep
+map-keep-same test g h f zero same = refl
+map-keep-same {A} {B} test g h f (suc n) same = split g ∙ rw (map-keep-same test g h f n same, last) (sym (split h))
+  where
+    split : (e : A → B) → map e (keep test (tabulate f n ++ (f n ∷ []))) ≡ map e (keep test (tabulate f n)) ++ map e (keep test (f n ∷ []))
+    split e =
+        ap (map e) (keep-append test (tabulate f n) (f n ∷ []))
+        ∙ map-append e (keep test (tabulate f n)) (keep test (f n ∷ []))
+
+    last : map g (keep test (f n ∷ [])) ≡ map h (keep test (f n ∷ []))
+    last =
+        elim (bool? (test (f n))) [
+          | inl p ↦ rw (keep-pass test (f n) p, same n)
+          | inr p ↦ rw (keep-fail test (f n) p)
+        ]

@@ -1,20 +1,22 @@
 -- What a task, a section row and a table are, as records of numbers (document 01, "The table's bytes"), and what the more urgent
 -- tasks ask for.
 -- Assumes nothing.
-use Prim.Native.Nat.{ℕ, _<_}
+use Prim.Native.Nat.{ℕ, _-_}
 use mathlib.Core.Bool.{Bool}
 use mathlib.Core.List.{List, map}
 use lib.Dec.{ltb}
 use lib.ListN.{getD}
 use Rattle.model.specs.Lists.{keep}
 
--- "priority (1 byte), period T, cost C, deadline D, jitter J". "A larger priority number is more urgent."
+-- "priority (1 byte), period T, cost C, deadline D", and the two delays: "earliest and latest delay in place of J" (document 02, L4). "A
+-- larger priority number is more urgent."
 pub record Task : Type 0 where
   pub priority : ℕ
   pub period : ℕ
   pub cost : ℕ
   pub deadline : ℕ
-  pub jitter : ℕ
+  pub earliest : ℕ
+  pub latest : ℕ
 
 -- "task place (1), semaphore (1), longest section (4)"
 pub record Row : Type 0 where
@@ -28,7 +30,7 @@ pub record Table : Type 0 where
 
 -- a task that asks for nothing: what stands at a place past the end
 abbrev pub noTask : Task
-noTask = record { priority = 0; period = 1; cost = 0; deadline = 1; jitter = 0 }
+noTask = record { priority = 0; period = 1; cost = 0; deadline = 1; earliest = 0; latest = 0 }
 
 -- the task at a place
 abbrev pub taskOf : List Task → ℕ → Task
@@ -40,8 +42,12 @@ pub record Load : Type 0 where
   pub cost : ℕ
   pub spread : ℕ
 
+-- "latest minus earliest delay inside the interference" (document 02, L4)
+abbrev pub spreadOf : Task → ℕ
+spreadOf t = t .latest - t .earliest
+
 abbrev pub loadOf : Task → Load
-loadOf t = record { period = t .period; cost = t .cost; spread = t .jitter }
+loadOf t = record { period = t .period; cost = t .cost; spread = spreadOf t }
 
 -- is a task more urgent than priority p?
 abbrev pub moreUrgent : ℕ → Task → Bool

@@ -1,17 +1,17 @@
 -- The parts of a table's text: late or not, a deadline that is there or not, one line more.
 -- Assumes nothing.
-use Prim.Native.Nat.{ℕ, _+_, _≤_, _<_}
+use Prim.Native.Nat.{ℕ, _+_, _*_, _≤_, _<_}
 use native.Mathlib.Omega.{arith}
+use native.Mathlib.Nat.{mul-le-mul}
 use native.Mathlib.Numerals.{add-one}
 use mathlib.Core.Path.{_≡_, refl, sym, _∙_, ap}
 use mathlib.Core.Logic.{inl, inr}
 use mathlib.Core.List.{List, _++_}
 use lib.ListN.{length, getD, List·getD-eq-default}
-use Rattle.model.specs.Tables.{Task}
 use Rattle.model.proofs.Tests.{ltb?, eqb?}
-use Rattle.tables.specs.Layout.{taskCount, recordStart, recordSize, recordFrom}
-use Rattle.tables.specs.Reading.{taskFrom}
-use Rattle.tables.specs.declared.records.TaskRecord.{TaskRecord}
+use Rattle.tables.specs.declared.layout.Layout.{Layout}
+use Rattle.tables.specs.Layout.{wordAt, layoutOf, taskCount, recordStart, deadlineAt}
+use Rattle.tables.proofs.LayoutLaws.{size-small}
 use Rattle.printing.specs.Appended.{Appended}
 use Rattle.printing.specs.Text.{bytesOf, withNumber, lineWithNumber, responseText, taskLine, taskLines, tasksText, deadlineShown}
 use Rattle.printing.proofs.AppendLaws.{then, nothing, as-text}
@@ -30,20 +30,37 @@ response-told answer d =
       | inr p ↦ rw (p .0) refl
     ]
 
-pub deadline-missing : (bytes : List ℕ) (place : ℕ) → length bytes < recordStart place + recordSize → 0 ≡ deadlineShown bytes place
-deadline-missing bytes place h =
-    elim (ltb? (length bytes) (recordStart place + recordSize)) [
-      | inl p ↦ rw (p .0) refl
-      | inr p ↦ absurd (omega (arith, p .1))
-    ]
+-- where the code looks for a deadline is where the layout has it
+module _ (bytes : List ℕ) (layout : Layout) (decided : layout ≡ layoutOf bytes) (place : ℕ) where
+  there : 5 + layout .size * place + 9 ≡ recordStart (layoutOf bytes) place + deadlineAt
+  there = ap (λ (l : Layout). recordStart l place + deadlineAt) decided
 
-pub deadline-read : (bytes : List ℕ) (place : ℕ) (r : TaskRecord) → recordStart place + recordSize ≤ length bytes →
-    taskFrom r ≡ recordFrom bytes (recordStart place) → r .deadline .0 ≡ deadlineShown bytes place
-deadline-read bytes place r h e =
-    elim (ltb? (length bytes) (recordStart place + recordSize)) [
-      | inl p ↦ absurd (omega (arith, p .1))
-      | inr p ↦ rw (p .0) (ap (λ (t : Task). t .deadline) e)
-    ]
+  -- the bytes end before the first record, or before the deadline
+  pub table-short : length bytes < 5 → 0 ≡ deadlineShown bytes place
+  table-short h =
+      elim (ltb? (length bytes) (recordStart (layoutOf bytes) place + deadlineAt + 4)) [
+        | inl p ↦ rw (p .0) refl
+        | inr p ↦ absurd (omega (arith, p .1))
+      ]
+
+  pub deadline-missing : length bytes < 5 + layout .size * place + 9 + 4 → 0 ≡ deadlineShown bytes place
+  deadline-missing h =
+      elim (ltb? (length bytes) (recordStart (layoutOf bytes) place + deadlineAt + 4)) [
+        | inl p ↦ rw (p .0) refl
+        | inr p ↦ absurd (omega (arith, p .1, there))
+      ]
+
+  pub deadline-read : (found : ℕ) → 5 + layout .size * place + 9 + 4 ≤ length bytes → found ≡ wordAt bytes (5 + layout .size * place + 9) →
+      found ≡ deadlineShown bytes place
+  deadline-read found h e =
+      elim (ltb? (length bytes) (recordStart (layoutOf bytes) place + deadlineAt + 4)) [
+        | inl p ↦ absurd (omega (arith, p .1, there))
+        | inr p ↦ rw (p .0) (e ∙ ap (wordAt bytes) there)
+      ]
+
+  -- a place that a byte can name is not far on
+  pub deadline-near : place < 256 → layout .size * place ≤ 5376
+  deadline-near h = omega (arith, mul-le-mul {n₁ = layout .size} {m₁ = place} {n₂ = 21} {m₂ = 256} (size-small bytes layout decided) (omega arith))
 
 pub past-end : (words : List ℕ) (place : ℕ) → length words ≤ place → 0 ≡ getD words place 0
 past-end words place h = sym (List·getD-eq-default words 0 h)

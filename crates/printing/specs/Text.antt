@@ -11,7 +11,7 @@ use Rattle.io.specs.Digits.{digits}
 use Rattle.model.specs.Choice.{pick}
 use Rattle.model.specs.Search.{firstFrom}
 use Rattle.tables.specs.declared.Refusal.{Refusal}
-use Rattle.tables.specs.Layout.{taskCount, recordStart, recordSize, deadlineIn}
+use Rattle.tables.specs.Layout.{layoutOf, taskCount, recordStart, deadlineAt, deadlineIn}
 use Rattle.tables.specs.Refusals.{numberOf, placeOf}
 use Rattle.response.specs.declared.Verdict.{Verdict}
 use Rattle.response.specs.declared.Verdict.the-variants.{Refused, Schedulable, Late}
@@ -48,9 +48,10 @@ taskLine place answer deadline rounds =
     ((decimalOf place ++ responseText answer) ++ withNumber (bytesOf " deadline ") deadline)
     ++ lineWithNumber (bytesOf " rounds ") rounds
 
--- the deadline of the record at a place, and 0 where the bytes end before the record does
+-- the deadline of the record at a place, and 0 where the bytes end before it does
 abbrev pub deadlineShown : List ℕ → ℕ → ℕ
-deadlineShown bytes place = pick (ltb (length bytes) (recordStart place + recordSize)) 0 (deadlineIn bytes place)
+deadlineShown bytes place =
+    pick (ltb (length bytes) (recordStart (layoutOf bytes) place + deadlineAt + 4)) 0 (deadlineIn bytes place)
 
 unfoldable pub taskLines : List ℕ → List ℕ → List ℕ → ℕ → List ℕ
 taskLines bytes answers rounds zero = []

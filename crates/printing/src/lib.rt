@@ -6,10 +6,11 @@ ghost use Rattle.tables.specs.Layout.{taskCount};
 ghost use Rattle.printing.specs.Appended.{Appended};
 ghost use Rattle.printing.specs.Text.{textOf, verdictLine, lineWithNumber, refusedLine, tasksText, taskLine, responseText, deadlineShown};
 use response::Verdict;
+use tables::DEADLINE_AT;
 use tables::HEAD_SIZE;
-use tables::RECORD_SIZE;
 use tables::Refusal;
 use tables::TASK_COUNT_AT;
+use tables::VERSION_AT;
 
 mod pieces;
 
@@ -121,16 +122,20 @@ fn response(out: &mut [u8], at: usize, answer: u32) -> usize
     }
 }
 
-// The deadline of the record at a place; 0 where the table ends before the record does, as no accepted table does.
+// The deadline of the record at a place; 0 where the table ends before it does, as no accepted table does.
 fn deadline(table: &[u8], place: usize) -> u32
     requires { ⌜ place < 256 ⌝ }
     ensures { λ r. ⌜ r ≡ deadlineShown (now (table .entry)) place ⌝ }
 {
-    let at = HEAD_SIZE + RECORD_SIZE * place;
-    if table.len() < at + RECORD_SIZE {
+    if table.len() < HEAD_SIZE {
         return 0;
     }
-    tables::records::read(table, at).deadline.0
+    let layout = tables::layout::of(table[VERSION_AT]);
+    let at = HEAD_SIZE + layout.size * place + DEADLINE_AT;
+    if table.len() < at + 4 {
+        return 0;
+    }
+    tables::fields::word(table, at)
 }
 
 // The word at a place; 0 past the end, which no accepted table reaches.

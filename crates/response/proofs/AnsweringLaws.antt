@@ -1,12 +1,11 @@
 -- One turn of the loop over the tasks of a decoded table.
 -- Assumes nothing.
-use Prim.Native.Nat.{ℕ, zero, suc, _+_, _≤_, _<_}
+use Prim.Native.Nat.{ℕ, _+_, _≤_, _<_}
 use native.Mathlib.Omega.{arith}
 use native.Mathlib.Numerals.{add-one}
-use mathlib.Core.Path.{_≡_, refl, sym, _∙_, ap}
-use mathlib.Core.Bool.{true}
+use mathlib.Core.Path.{_≡_, refl, sym, _∙_}
 use mathlib.Core.List.{List}
-use lib.ListN.{length, getD}
+use lib.ListN.{getD}
 use lib.Dec.{leb, ltb}
 use Rattle.model.specs.Choice.{pick, both}
 use Rattle.model.specs.Lists.{largestTo}
@@ -15,7 +14,6 @@ use Rattle.model.proofs.Lists.{largest-high}
 use Rattle.model.proofs.Tests.{on-high}
 use Rattle.model.proofs.First as first-laws
 use Rattle.tables.specs.Refusals.{at}
-use Rattle.equation.specs.Demand.{demand}
 use Rattle.equation.specs.Slices.{LoadsFit}
 use Rattle.equation.specs.Solver.{Solvable, SolvedBy}
 use Rattle.equation.proofs.Laws.{demandGrows}
@@ -24,7 +22,7 @@ use Rattle.response.specs.declared.Verdict.{Verdict}
 use Rattle.response.specs.declared.Verdict.the-variants.{Schedulable}
 use Rattle.response.specs.Verdicts.{isSchedulable}
 use Rattle.response.specs.Outcome.{lateIf, lateAt, resultOf}
-use Rattle.response.specs.Slices.{Decoded, DecodedFits, baseIn, loadsIn, answerIn, roundsIn}
+use Rattle.response.specs.Slices.{Decoded, DecodedFits, loadsIn, answerIn, roundsIn}
 
 loads-less : (periods costs spreads : List ℕ) (n i : ℕ) → LoadsFit periods costs spreads n → i ≤ n → LoadsFit periods costs spreads i
 loads-less periods costs spreads n i f h =
@@ -62,23 +60,23 @@ module _ (d : Decoded) (n : ℕ) where
     pub base-fits : getD (d .costs) i 0 + held ≤ 2000000
     base-fits = omega (arith, held-high, f .loadsFit .each i h)
 
-    pub loads-fit : LoadsFit (d .periods) (d .costs) (d .jitters) i
-    loads-fit = loads-less (d .periods) (d .costs) (d .jitters) n i (f .loadsFit) (omega arith)
+    pub loads-fit : LoadsFit (d .periods) (d .costs) (d .spreads) i
+    loads-fit = loads-less (d .periods) (d .costs) (d .spreads) n i (f .loadsFit) (omega arith)
 
     -- the sequence may start at cost and blocking: every solution is at least that
-    pub solvable : Solvable (getD (d .costs) i 0 + held) (loadsIn d i) (getD (d .costs) i 0 + held) (getD (d .jitters) i 0) (getD (d .deadlines) i 0)
+    pub solvable : Solvable (getD (d .costs) i 0 + held) (loadsIn d i) (getD (d .costs) i 0 + held) (getD (d .latest) i 0) (getD (d .deadlines) i 0)
     solvable =
         let base = getD (d .costs) i 0 + held in
         record {
           basePositive = omega (arith, f .costLow i h);
           notAbove = λ w one e. omega (arith, demandGrows .atLeastBase base (loadsIn d i) w);
           startHigh = omega (arith, base-fits);
-          lateHigh = omega (arith, f .loadsFit .each i h);
+          lateHigh = f .latestHigh i h;
           deadlineHigh = f .deadlineHigh i h;
         }
 
     module _ (response spent : ℕ)
-        (solved : SolvedBy (getD (d .costs) i 0 + held) (loadsIn d i) (getD (d .costs) i 0 + held) (getD (d .jitters) i 0) (getD (d .deadlines) i 0) response spent) where
+        (solved : SolvedBy (getD (d .costs) i 0 + held) (loadsIn d i) (getD (d .costs) i 0 + held) (getD (d .latest) i 0) (getD (d .deadlines) i 0) response spent) where
       pub response-is : response ≡ answerIn d i
       unfolding answerIn
       response-is = rw is at (solved .response)

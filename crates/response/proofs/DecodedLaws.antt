@@ -1,26 +1,25 @@
 -- Slices that hold a decoded table give the answers of the table that the bytes mean.
 -- Assumes nothing.
-use Prim.Native.Nat.{ℕ, zero, suc, _+_, _≤_, _<_}
+use Prim.Native.Nat.{ℕ, _+_, _≤_, _<_}
 use native.Mathlib.Omega.{arith}
-use mathlib.Core.Path.{_≡_, refl, sym, _∙_, ap, subst}
+use mathlib.Core.Path.{_≡_, sym, _∙_, ap}
 use mathlib.Core.List.{List}
 use lib.ListN.{length, getD}
 use Rattle.model.specs.Lists.{tabulate, filled, largestTo, largestOf}
 use Rattle.model.proofs.Lists.{length-filled}
 use Rattle.model.proofs.Filling.{filled-word}
 use Rattle.model.specs.Tables.{Task, Load, taskOf, loadOf, loadsOf}
-use Rattle.tables.specs.Fields.{taskCountField, rowCountField, periodField, costField, deadlineField, jitterField, placeField, semaphoreField, longestField}
-use Rattle.tables.specs.Layout.{taskCount, rowCount, taskAt, rowAt, tasksOf, rowsOf, tableOf, priorityIn, costIn, jitterIn, deadlineIn, placeIn, longestIn}
+use Rattle.tables.specs.Fields.{taskCountField, rowCountField, periodField, costField, deadlineField, latestField, placeField, semaphoreField, longestField}
+use Rattle.tables.specs.Layout.{taskCount, rowCount, taskAt, rowAt, tasksOf, tableOf, placeIn}
 use Rattle.tables.specs.Meaning.{HeadRight, RecordsRight, RowsRight}
+use Rattle.tables.proofs.LayoutLaws.{layout-sound}
 use Rattle.tables.proofs.CheckLaws.{head-right, records-right, rows-right}
-use Rattle.equation.specs.Answer.{answer}
-use Rattle.equation.specs.Sequence.{rounds}
-use Rattle.equation.specs.Slices.{loads, loadAt, LoadsFit}
-use Rattle.blocking.specs.Ceilings.{owner, section, blockingOf}
+use Rattle.equation.specs.Slices.{loads, loadAt}
+use Rattle.blocking.specs.Ceilings.{section, blockingOf}
 use Rattle.blocking.specs.Slices.{ownerAt, topAt, sectionAt, RowsHeld}
 use Rattle.blocking.proofs.CeilingLaws.{blocking-agrees}
 use Rattle.response.specs.Analysis.{baseOf, answerOf, roundsOf}
-use Rattle.response.specs.Slices.{decoded, baseIn, loadsIn, answerIn, roundsIn, DecodedFits}
+use Rattle.response.specs.Slices.{decoded, answerIn, roundsIn, DecodedFits}
 use Rattle.response.specs.Stages.{Holds, RecordsHeld, RowsRead}
 use Rattle.response.proofs.TableLaws as tables
 
@@ -29,11 +28,11 @@ pub holds-filled : (f : ℕ → ℕ) (n : ℕ) (old new : List ℕ) → new ≡ 
 holds-filled f n old new e h =
     record { long = rw (e, length-filled f n old h) h; read = filled-word f n old new e }
 
-same-load : (a b : Load) → a .period ≡ b .period → a .cost ≡ b .cost → a .spread ≡ b .spread → a ≡ b
+pub same-load : (a b : Load) → a .period ≡ b .period → a .cost ≡ b .cost → a .spread ≡ b .spread → a ≡ b
 same-load a b period cost spread = λ i. record { period = period i; cost = cost i; spread = spread i }
 
-module _ (bytes : List ℕ) (n m : ℕ) (priorities periods costs deadlines jitters places semaphores longest : List ℕ)
-    (records : RecordsHeld bytes n priorities periods costs deadlines jitters) (rows : RowsRead bytes m places semaphores longest) where
+module _ (bytes : List ℕ) (n m : ℕ) (priorities periods costs deadlines spreads latest places semaphores longest : List ℕ)
+    (records : RecordsHeld bytes n priorities periods costs deadlines spreads latest) (rows : RowsRead bytes m places semaphores longest) where
   head : HeadRight bytes
   head = head-right bytes (records .head)
 
@@ -74,24 +73,25 @@ module _ (bytes : List ℕ) (n m : ℕ) (priorities periods costs deadlines jitt
         rw (rows .longestHeld .read k h)
         (omega (arith, row longestField .high, tasksRight (placeIn bytes k) (row placeField) costField .high))
 
-    pub decoded-fits : DecodedFits (decoded priorities periods costs deadlines jitters owners tops longest m) n
+    pub decoded-fits : DecodedFits (decoded priorities periods costs deadlines spreads latest owners tops longest m) n
     decoded-fits =
         record {
           loadsFit =
               record {
-                few = omega (arith, head .counts taskCountField .high, records .counted);
+                few = omega (arith, head .counts taskCountField .high, layout-sound bytes (head .version) .few, records .counted);
                 periodsLong = records .periodsHeld .long;
                 costsLong = records .costsHeld .long;
-                spreadsLong = records .jittersHeld .long;
+                spreadsLong = records .spreadsHeld .long;
                 each = λ k h.
                     record {
                       periodLow = rw (records .periodsHeld .read k h) (tasksRight k (inside h) periodField .low);
                       costHigh = rw (records .costsHeld .read k h) (tasksRight k (inside h) costField .high);
-                      spreadHigh = rw (records .jittersHeld .read k h) (tasksRight k (inside h) jitterField .high);
+                      spreadHigh = rw (records .spreadsHeld .read k h) (omega (arith, tasksRight k (inside h) latestField .high));
                     };
               };
           prioritiesLong = records .prioritiesHeld .long;
           deadlinesLong = records .deadlinesHeld .long;
+          latestLong = records .latestHeld .long;
           ownersLong = ownersHeld .long;
           topsLong = topsHeld .long;
           longestLong = rows .longestHeld .long;
@@ -99,6 +99,7 @@ module _ (bytes : List ℕ) (n m : ℕ) (priorities periods costs deadlines jitt
           deadlineHigh = λ i h.
               let numbers = tasksRight i (inside h) in
               rw (records .deadlinesHeld .read i h) (omega (arith, numbers deadlineField .high, numbers periodField .high));
+          latestHigh = λ i h. rw (records .latestHeld .read i h) (tasksRight i (inside h) latestField .high);
           longestHigh = longest-high;
         }
 
@@ -127,26 +128,26 @@ module _ (bytes : List ℕ) (n m : ℕ) (priorities periods costs deadlines jitt
           records .costsHeld .read i h ∙ sym (ap (λ (t : Task). t .cost) own) in
           omega (arith, cost, blocking-is)
 
-      loads-agree : loads periods costs jitters i ≡ loadsOf (tasksOf bytes) i
+      loads-agree : loads periods costs spreads i ≡ loadsOf (tasksOf bytes) i
       loads-agree =
           sym
-          (tables.loads-are bytes tasksRight (loadAt periods costs jitters) i (inside h)
+          (tables.loads-are bytes tasksRight (loadAt periods costs spreads) i (inside h)
           (λ k l.
-          same-load (loadOf (taskAt bytes k)) (loadAt periods costs jitters k)
+          same-load (loadOf (taskAt bytes k)) (loadAt periods costs spreads k)
           (sym (records .periodsHeld .read k (omega arith)))
           (sym (records .costsHeld .read k (omega arith)))
-          (sym (records .jittersHeld .read k (omega arith)))))
+          (sym (records .spreadsHeld .read k (omega arith)))))
 
-      jitter-is : getD jitters i 0 ≡ taskOf (tasksOf bytes) i .jitter
-      jitter-is = records .jittersHeld .read i h ∙ sym (ap (λ (t : Task). t .jitter) own)
+      latest-is : getD latest i 0 ≡ taskOf (tasksOf bytes) i .latest
+      latest-is = records .latestHeld .read i h ∙ sym (ap (λ (t : Task). t .latest) own)
 
       deadline-is : getD deadlines i 0 ≡ taskOf (tasksOf bytes) i .deadline
       deadline-is = records .deadlinesHeld .read i h ∙ sym (ap (λ (t : Task). t .deadline) own)
 
-      pub answer-agrees : answerIn (decoded priorities periods costs deadlines jitters owners tops longest m) i ≡ answerOf (tableOf bytes) i
+      pub answer-agrees : answerIn (decoded priorities periods costs deadlines spreads latest owners tops longest m) i ≡ answerOf (tableOf bytes) i
       unfolding answerIn answerOf
-      answer-agrees = rw (base-is, loads-agree, jitter-is, deadline-is)
+      answer-agrees = rw (base-is, loads-agree, latest-is, deadline-is)
 
-      pub rounds-agree : roundsIn (decoded priorities periods costs deadlines jitters owners tops longest m) i ≡ roundsOf (tableOf bytes) i
+      pub rounds-agree : roundsIn (decoded priorities periods costs deadlines spreads latest owners tops longest m) i ≡ roundsOf (tableOf bytes) i
       unfolding roundsIn roundsOf
-      rounds-agree = rw (base-is, loads-agree, jitter-is, deadline-is)
+      rounds-agree = rw (base-is, loads-agree, latest-is, deadline-is)

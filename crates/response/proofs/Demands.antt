@@ -1,37 +1,34 @@
 -- Demands 1 to 3 for bytes, and that the contract of `analyse` leaves no second answer.
 -- Assumes nothing.
-use Prim.Native.Nat.{ℕ, zero, suc, _+_, _-_, _≤_, _<_}
+use Prim.Native.Nat.{ℕ, _+_, _-_, _≤_, _<_}
 use native.Mathlib.Omega.{arith}
 use native.Mathlib.Decide.{decLe}
 use native.Mathlib.Nat.{add-zero}
 use mathlib.Core.Path.{_≡_, refl, sym, _∙_, ap, subst}
-use mathlib.Core.Bool.{Bool, true, false}
+use mathlib.Core.Bool.{true, false}
 use mathlib.Core.Logic.{_⊎_, inl, inr}
-use mathlib.Core.List.{List, []}
-use lib.Dec.{eqb, ltb}
+use mathlib.Core.List.{List}
+use lib.Dec.{eqb}
 use lib.ListN.{length, getD}
-use borrow.Author.Tests.{eqb-true, eqb-false, ltb-true, ltb-false, eq-eqb, ne-eqb}
-use Rattle.model.specs.Choice.{pick, either}
+use borrow.Author.Tests.{eqb-true, eqb-false, ltb-true, ltb-false}
 use Rattle.model.specs.Lists.{filled, tabulate, largestOf, wordOf}
-use Rattle.model.specs.Tables.{Table, Task, taskOf, loadsOf}
+use Rattle.model.specs.Tables.{Table, taskOf, loadsOf}
 use Rattle.model.proofs.Lists.{getD-filled, getD-filled-past, length-filled}
 use Rattle.model.proofs.Tests.{bool?, clash, not-either, either-true}
 use Rattle.model.proofs.First as first-laws
 use Rattle.tables.specs.declared.Refusal.{Refusal}
 use Rattle.tables.specs.declared.Check.{Check}
 use Rattle.tables.specs.declared.Check.the-variants as check
-use Rattle.tables.specs.Layout.{taskCount, rowCount, tasksOf, rowsOf, rowAt, tableOf}
+use Rattle.tables.specs.Layout.{taskCount, rowCount, tasksOf, rowAt, tableOf}
 use Rattle.tables.specs.Refusals.{at, isClean}
 use Rattle.tables.specs.Checks.{tableCheck}
 use Rattle.tables.specs.Meaning.{TableRight, RoomFor}
-use Rattle.tables.specs.Deserved.{Deserved}
 use Rattle.tables.proofs.CheckLaws.{table-deserved, table-gives, table-right, table-clean}
-use Rattle.equation.specs.Answer.{answer}
-use Rattle.equation.specs.Sequence.{term, stops, rounds}
-use Rattle.equation.specs.Laws.{IsSmallest, NotAbove}
+use Rattle.equation.specs.Sequence.{term, rounds}
+use Rattle.equation.specs.Laws.{NotAbove}
 use Rattle.equation.proofs.Laws.{answerMeans, roundsMean, roundsBound, demandGrows}
 use Rattle.blocking.specs.Ceilings.{blockingOf, section}
-use Rattle.runs.specs.Jobs.{NoJitter}
+use Rattle.runs.specs.Jobs.{NoDelay}
 use Rattle.runs.specs.Statement.{Answers, responseOf}
 use Rattle.runs.proofs.Demand3 as runs
 use Rattle.response.specs.declared.Verdict.{Verdict}
@@ -42,7 +39,7 @@ use Rattle.response.specs.Outcome.{Outcome, lateIf, lateAt, resultOf, ve
 use Rattle.response.specs.Statements as says
 use Rattle.response.specs.Statements.{AnswerRight, RoundsRight, ResultRight, Written}
 use Rattle.response.proofs.PlaceLaws.{schedulable-only}
-use Rattle.response.proofs.TableLaws.{task-is, tasks-count, tasks-fit}
+use Rattle.response.proofs.TableLaws.{tasks-count, tasks-fit}
 
 -- which verdict a check leads to
 pub refused-by : (c : Check) (result : Verdict) (r : Refusal) → isSchedulable result ≡ true ⊎ ((i : _) × (result ≡ verdict.Late i)) →
@@ -137,7 +134,7 @@ module _ (table : Table) (i : ℕ) (costLow : 1 ≤ taskOf (table .tasks) i .cos
   unfolding answerOf
   answer-right =
       let loads = loadsOf (table .tasks) i in
-      let late = taskOf (table .tasks) i .jitter in
+      let late = taskOf (table .tasks) i .latest in
       let due = taskOf (table .tasks) i .deadline in
       record {
         answered = λ one.
@@ -154,7 +151,7 @@ module _ (table : Table) (i : ℕ) (costLow : 1 ≤ taskOf (table .tasks) i .cos
   unfolding roundsOf term
   rounds-right =
       let loads = loadsOf (table .tasks) i in
-      let late = taskOf (table .tasks) i .jitter in
+      let late = taskOf (table .tasks) i .latest in
       let due = taskOf (table .tasks) i .deadline in
       let start = baseOf table i in
       let one : 1 ≤ start = omega arith in
@@ -222,7 +219,7 @@ result-transfer f g n verdict.Schedulable same h = λ i l. rw (sym (same i l)) (
 result-transfer f g n (verdict.Late p) same h =
     (h .0, sym (same (p .0) (h .0)) ∙ h .1, λ i l. rw (sym (same i (omega (arith, h .0)))) (h .2 i l))
 
-module _ (bytes : List ℕ) (calm : NoJitter (tasksOf bytes)) (bare : rowCount bytes ≡ 0) where
+module _ (bytes : List ℕ) (calm : NoDelay (tasksOf bytes)) (bare : rowCount bytes ≡ 0) where
   -- with no rows nothing blocks
   no-blocking : (i : ℕ) → blockingOf (tableOf bytes) i ≡ 0
   unfolding blockingOf tabulate largestOf
@@ -254,7 +251,7 @@ module _ (bytes answers rounds : List ℕ) (v : Verdict) (answersLeft roundsLeft
   pub answer-word : (i : ℕ) → i < taskCount bytes → wordOf answersLeft i ≡ answerOf (tableOf bytes) i
   answer-word i h = ap (λ l. getD l i 0) answers-filled ∙ getD-filled (answerOf (tableOf bytes)) (taskCount bytes) i answers 0 h
 
-  rounds-word : (i : ℕ) → i < taskCount bytes → wordOf roundsLeft i ≡ roundsOf (tableOf bytes) i
+  pub rounds-word : (i : ℕ) → i < taskCount bytes → wordOf roundsLeft i ≡ roundsOf (tableOf bytes) i
   rounds-word i h = ap (λ l. getD l i 0) rounds-filled ∙ getD-filled (roundsOf (tableOf bytes)) (taskCount bytes) i rounds 0 h
 
   cost-low : (i : ℕ) → i < taskCount bytes → 1 ≤ taskOf (tasksOf bytes) i .cost
@@ -281,7 +278,7 @@ module _ (bytes answers rounds : List ℕ) (v : Verdict) (answersLeft roundsLeft
             (result-right (answerOf (tableOf bytes)) (taskCount bytes)));
       }
 
-  run-answers : NoJitter (tasksOf bytes) → rowCount bytes ≡ 0 → (i : ℕ) → i < taskCount bytes → Answers (tasksOf bytes) i (wordOf answersLeft i)
+  run-answers : NoDelay (tasksOf bytes) → rowCount bytes ≡ 0 → (i : ℕ) → i < taskCount bytes → Answers (tasksOf bytes) i (wordOf answersLeft i)
   run-answers calm bare i h =
       rw (answer-word i h ∙ plain-answer bytes calm bare i h)
       (runs.demand3 (tasksOf bytes) (tasks-fit bytes (right .records)) calm i (omega (arith, tasks-count bytes)))

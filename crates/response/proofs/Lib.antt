@@ -5,4 +5,5 @@ pub mod OutcomeLaws
 pub mod StageLaws
 pub mod PlaceLaws
 pub mod Demands
+pub mod VersionOne
 pub mod WorkedTables

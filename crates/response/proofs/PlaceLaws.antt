@@ -15,6 +15,7 @@ use Rattle.tables.specs.Fields.{taskCountField}
 use Rattle.tables.specs.Layout.{taskCount, tableOf}
 use Rattle.tables.specs.Refusals.{at}
 use Rattle.tables.specs.Checks.{tableCheck}
+use Rattle.tables.proofs.LayoutLaws.{layout-sound}
 use Rattle.tables.proofs.CheckLaws.{table-deserved, table-right}
 use Rattle.tables.proofs.PlaceLaws.{refusal-place}
 use Rattle.response.specs.declared.Verdict.{Verdict}
@@ -51,9 +52,11 @@ verdict-place bytes answers rounds = go (tableCheck bytes answers rounds) refl
   where
     go : (c : Check) → tableCheck bytes answers rounds ≡ c → verdictPlace (verdictFor c (resultOf (answerOf (tableOf bytes)) (taskCount bytes))) < 65536
     go check.Clean e =
+        let head = table-right bytes answers rounds e .0 .head in
         omega (
           arith,
           result-place (answerOf (tableOf bytes)) (taskCount bytes),
-          table-right bytes answers rounds e .0 .head .counts taskCountField .high,
+          head .counts taskCountField .high,
+          layout-sound bytes (head .version) .few,
         )
     go (check.Refused r) e = refusal-place bytes answers rounds r (table-deserved bytes answers rounds r e)

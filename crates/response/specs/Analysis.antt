@@ -1,4 +1,5 @@
--- What the analysis answers for each task of a table (document 01, "The equation").
+-- What the analysis answers for each task of a table (document 01, "The equation"; document 02, L4: the answer adds the latest delay, and
+-- "every test against the deadline and the bound on rounds use the latest").
 -- Assumes nothing.
 use Prim.Native.Nat.{ℕ, _+_}
 use Rattle.model.specs.Tables.{Table, taskOf, loadsOf}
@@ -13,9 +14,9 @@ baseOf table i = taskOf (table .tasks) i .cost + blockingOf table i
 -- the answer of the task at place i
 unfoldable pub answerOf : Table → ℕ → ℕ
 answerOf table i =
-    answer (baseOf table i) (loadsOf (table .tasks) i) (taskOf (table .tasks) i .jitter) (taskOf (table .tasks) i .deadline)
+    answer (baseOf table i) (loadsOf (table .tasks) i) (taskOf (table .tasks) i .latest) (taskOf (table .tasks) i .deadline)
 
 -- its rounds, from the start that document 01 decides
 unfoldable pub roundsOf : Table → ℕ → ℕ
 roundsOf table i =
-    rounds (baseOf table i) (loadsOf (table .tasks) i) (baseOf table i) (taskOf (table .tasks) i .jitter) (taskOf (table .tasks) i .deadline)
+    rounds (baseOf table i) (loadsOf (table .tasks) i) (baseOf table i) (taskOf (table .tasks) i .latest) (taskOf (table .tasks) i .deadline)

@@ -4,4 +4,5 @@ pub mod Outcome
 pub mod Slices
 pub mod Stages
 pub mod Statements
+pub mod VersionOne
 pub mod Worked

@@ -1,7 +1,7 @@
 -- Demands 1 to 3 for the bytes of any table, as named statements about what `analyse` answers and leaves (`Outcome`, its contract).
 -- The proofs are in proofs/Demands.antt.
 -- Assumes nothing.
-use Prim.Native.Nat.{ℕ, zero, suc, _+_, _-_, _≤_, _<_}
+use Prim.Native.Nat.{ℕ, _+_, _-_, _≤_, _<_}
 use mathlib.Core.Path.{_≡_}
 use mathlib.Core.Logic.{_⊎_}
 use mathlib.Core.List.{List}
@@ -14,7 +14,7 @@ use Rattle.tables.specs.Meaning.{TableRight, RoomFor}
 use Rattle.tables.specs.Deserved.{Deserved}
 use Rattle.equation.specs.Laws.{IsSmallest}
 use Rattle.equation.specs.Sequence.{term}
-use Rattle.runs.specs.Jobs.{NoJitter}
+use Rattle.runs.specs.Jobs.{NoDelay}
 use Rattle.runs.specs.Statement.{Answers}
 use Rattle.response.specs.declared.Verdict.{Verdict}
 use Rattle.response.specs.declared.Verdict.the-variants.{Refused, Schedulable, Late}
@@ -44,27 +44,29 @@ pub record Demand1 : Type 0 where
       TableRight bytes → RoomFor bytes (length answers) (length rounds) →
       ¬ Outcome bytes answers rounds (Refused refusal) answersLeft roundsLeft
 
--- R is "w + J_i if such a w exists and w + J_i ≤ D_i; else 0", where w is "the smallest whole number of at least 1 with demand(i, w) = w"
+-- R is "w + J_i if such a w exists and w + J_i ≤ D_i; else 0", where w is "the smallest whole number of at least 1 with demand(i, w) = w".
+-- For J_i stands the latest delay, and in the demand of a more urgent task the latest minus the earliest (document 02, L4).
 pub record AnswerRight (table : Table) (i R : ℕ) : Type 0 where
   pub answered : 1 ≤ R →
-      (w : ℕ) × IsSmallest (baseOf table i) (loadsOf (table .tasks) i) w × (R ≡ w + taskOf (table .tasks) i .jitter)
+      (w : ℕ) × IsSmallest (baseOf table i) (loadsOf (table .tasks) i) w × (R ≡ w + taskOf (table .tasks) i .latest)
       × (R ≤ taskOf (table .tasks) i .deadline)
   pub late : R ≡ 0 → (w : ℕ) → IsSmallest (baseOf table i) (loadsOf (table .tasks) i) w →
-      taskOf (table .tasks) i .deadline < w + taskOf (table .tasks) i .jitter
+      taskOf (table .tasks) i .deadline < w + taskOf (table .tasks) i .latest
 
 -- the x of document 01: "x0 = C_i + B_i, and each next x is demand(i, x)"
 abbrev pub x : Table → ℕ → ℕ → ℕ
 x table i k = term (baseOf table i) (loadsOf (table .tasks) i) (baseOf table i) k
 
--- "Rounds is the smallest k ≥ 1 with x_k = x_(k−1) or x_k + J_i > D_i", "at most D_i − J_i − x0 + 1 when x0 + J_i ≤ D_i, and 1 otherwise"
+-- "Rounds is the smallest k ≥ 1 with x_k = x_(k−1) or x_k + J_i > D_i", "at most D_i − J_i − x0 + 1 when x0 + J_i ≤ D_i, and 1
+-- otherwise", with the latest delay for J_i
 pub record RoundsRight (table : Table) (i k : ℕ) : Type 0 where
   pub positive : 1 ≤ k
-  pub last : (x table i k ≡ x table i (k - 1)) ⊎ (taskOf (table .tasks) i .deadline < x table i k + taskOf (table .tasks) i .jitter)
+  pub last : (x table i k ≡ x table i (k - 1)) ⊎ (taskOf (table .tasks) i .deadline < x table i k + taskOf (table .tasks) i .latest)
   pub first : (j : ℕ) → 1 ≤ j → j < k →
-      (¬ (x table i j ≡ x table i (j - 1))) × (x table i j + taskOf (table .tasks) i .jitter ≤ taskOf (table .tasks) i .deadline)
-  pub within : x table i 0 + taskOf (table .tasks) i .jitter ≤ taskOf (table .tasks) i .deadline →
-      k ≤ taskOf (table .tasks) i .deadline - taskOf (table .tasks) i .jitter - x table i 0 + 1
-  pub otherwise : taskOf (table .tasks) i .deadline < x table i 0 + taskOf (table .tasks) i .jitter → k ≡ 1
+      (¬ (x table i j ≡ x table i (j - 1))) × (x table i j + taskOf (table .tasks) i .latest ≤ taskOf (table .tasks) i .deadline)
+  pub within : x table i 0 + taskOf (table .tasks) i .latest ≤ taskOf (table .tasks) i .deadline →
+      k ≤ taskOf (table .tasks) i .deadline - taskOf (table .tasks) i .latest - x table i 0 + 1
+  pub otherwise : taskOf (table .tasks) i .deadline < x table i 0 + taskOf (table .tasks) i .latest → k ≡ 1
 
 -- "the result is "schedulable" or "late" with the first place whose answer is 0"
 abbrev pub ResultRight : (ℕ → ℕ) → ℕ → Verdict → Type 0
@@ -97,10 +99,10 @@ NoSecondAnswer =
     Outcome bytes answers rounds verdict answersLeft roundsLeft → Outcome bytes answers rounds other answersOther roundsOther →
     (verdict ≡ other) × (answersLeft ≡ answersOther) × (roundsLeft ≡ roundsOther)
 
--- Demand 3: "With no jitter and no critical sections" the word that `analyse` leaves is right about every legal run.
+-- Demand 3: "With no jitter and no critical sections" (no delay and no row) the word that `analyse` leaves is right about every legal run.
 abbrev pub Demand3 : Type 0
 Demand3 =
     (bytes answers rounds : List ℕ) (verdict : Verdict) (answersLeft roundsLeft : List ℕ) →
     Outcome bytes answers rounds verdict answersLeft roundsLeft → TableRight bytes → RoomFor bytes (length answers) (length rounds) →
-    NoJitter (tasksOf bytes) → rowCount bytes ≡ 0 →
+    NoDelay (tasksOf bytes) → rowCount bytes ≡ 0 →
     (i : ℕ) → i < taskCount bytes → Answers (tasksOf bytes) i (wordOf answersLeft i)

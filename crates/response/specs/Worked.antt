@@ -1,6 +1,6 @@
--- The worked tables that document 01 marks *, as rows of one list under one statement.
+-- The worked tables that document 01 marks *, and the one of document 02's L4, as rows of one list under one statement.
 -- Assumes nothing.
-use Prim.Native.Nat.{ℕ, zero, suc}
+use Prim.Native.Nat.{ℕ, suc}
 use mathlib.Core.Path.{_≡_}
 use mathlib.Core.List.{List, [], _∷_}
 use lib.ListN.{length}
@@ -14,13 +14,16 @@ pub record Entry : Type 0 where
   pub period : ℕ
   pub cost : ℕ
   pub deadline : ℕ
-  pub jitter : ℕ
+  pub earliest : ℕ
+  pub latest : ℕ
 
 abbrev pub entry : ℕ → ℕ → ℕ → Entry
-entry period cost deadline = record { period = period; cost = cost; deadline = deadline; jitter = 0 }
+entry period cost deadline = record { period = period; cost = cost; deadline = deadline; earliest = 0; latest = 0 }
 
-abbrev pub delayed : ℕ → ℕ → ℕ → ℕ → Entry
-delayed period cost deadline jitter = record { period = period; cost = cost; deadline = deadline; jitter = jitter }
+-- with two delays; J alone is the latest
+abbrev pub delayed : ℕ → ℕ → ℕ → ℕ → ℕ → Entry
+delayed period cost deadline earliest latest =
+    record { period = period; cost = cost; deadline = deadline; earliest = earliest; latest = latest }
 
 abbrev pub row : ℕ → ℕ → ℕ → Row
 row place semaphore longest = record { place = place; semaphore = semaphore; longest = longest }
@@ -29,8 +32,14 @@ row place semaphore longest = record { place = place; semaphore = semaphore; lon
 abbrev pub prioritised : List Entry → List Task
 prioritised [] = []
 prioritised (e ∷ es) =
-    record
-    { priority = suc (length es); period = e .period; cost = e .cost; deadline = e .deadline; jitter = e .jitter }
+    record {
+      priority = suc (length es);
+      period = e .period;
+      cost = e .cost;
+      deadline = e .deadline;
+      earliest = e .earliest;
+      latest = e .latest;
+    }
     ∷ prioritised es
 
 -- what the document says, where it says it
@@ -67,7 +76,8 @@ workedTables =
     ∷ plain (entry 5 1 5 ∷ entry 6 2 4 ∷ entry 10 1 3 ∷ []) (1 ∷ 3 ∷ 0 ∷ [])
     ∷ plain (entry 6 4 6 ∷ entry 12 4 12 ∷ []) (4 ∷ 12 ∷ [])
     ∷ plain (entry 6 3 6 ∷ entry 12 8 12 ∷ []) (3 ∷ 0 ∷ [])
-    ∷ counted (delayed 30 10 20 10 ∷ entry 1000 15 25 ∷ []) (20 ∷ 0 ∷ []) (1 ∷ 2 ∷ [])
+    ∷ counted (delayed 30 10 20 0 10 ∷ entry 1000 15 25 ∷ []) (20 ∷ 0 ∷ []) (1 ∷ 2 ∷ [])
+    ∷ plain (delayed 30 10 20 10 10 ∷ entry 1000 15 25 ∷ []) (20 ∷ 25 ∷ [])
     ∷ record {
       entries = entry 10 2 5 ∷ entry 20 3 12 ∷ entry 40 10 40 ∷ entry 100 4 50 ∷ [];
       rows = row 1 1 1 ∷ row 1 2 1 ∷ row 2 2 5 ∷ row 3 1 2 ∷ [];

@@ -36,7 +36,8 @@ pub fn answer_all(
     periods: &[u32],
     costs: &[u32],
     deadlines: &[u32],
-    jitters: &[u32],
+    spreads: &[u32],
+    latest: &[u32],
     n: usize,
     owners: &[u8],
     tops: &[u8],
@@ -45,9 +46,9 @@ pub fn answer_all(
     answers: &mut [u32],
     rounds: &mut [u32],
 ) -> Verdict
-    requires { ⌜ DecodedFits (decoded (now priorities) (now periods) (now costs) (now deadlines) (now jitters) (now owners) (now tops) (now longest) m) n ⌝ }
+    requires { ⌜ DecodedFits (decoded (now priorities) (now periods) (now costs) (now deadlines) (now spreads) (now latest) (now owners) (now tops) (now longest) m) n ⌝ }
     requires { ⌜ (n ≤ length (now answers)) × (n ≤ length (now rounds)) ⌝ }
-    ensures { λ r. ⌜ Answered (decoded (now (priorities .entry)) (now (periods .entry)) (now (costs .entry)) (now (deadlines .entry)) (now (jitters .entry)) (now (owners .entry)) (now (tops .entry)) (now (longest .entry)) m) n r (now (answers .entry)) (now (answers .exit)) (now (rounds .entry)) (now (rounds .exit)) ⌝ }
+    ensures { λ r. ⌜ Answered (decoded (now (priorities .entry)) (now (periods .entry)) (now (costs .entry)) (now (deadlines .entry)) (now (spreads .entry)) (now (latest .entry)) (now (owners .entry)) (now (tops .entry)) (now (longest .entry)) m) n r (now (answers .entry)) (now (answers .exit)) (now (rounds .entry)) (now (rounds .exit)) ⌝ }
 {
     let mut verdict = Verdict::Schedulable;
     for i in 0..n {
@@ -56,11 +57,11 @@ pub fn answer_all(
         let solved = solve(
             periods,
             costs,
-            jitters,
+            spreads,
             i,
             base,
             base,
-            Ticks(jitters[i]),
+            Ticks(latest[i]),
             Ticks(deadlines[i]),
         );
         answers[i] = solved.response.0;

@@ -4,10 +4,10 @@ ghost use Prim.Native.Nat.{_≤_};
 ghost use lib.Dec.{leb};
 ghost use lib.ListN.{length};
 ghost use Rattle.model.specs.Choice.{both};
-ghost use Rattle.tables.specs.Layout.{rowCount, taskAt};
+ghost use Rattle.tables.specs.Layout.{layoutOf, rowCount, taskAt};
 ghost use Rattle.tables.specs.declared.Check.the-variants as check;
 ghost use Rattle.tables.specs.Checks.{headCheck, recordCheck};
-ghost use Rattle.tables.specs.Reading.{taskFrom};
+ghost use Rattle.tables.specs.Reading.{taskFrom, NumbersRead, numbersFault};
 ghost use Rattle.response.specs.Outcome.{Outcome};
 ghost use Rattle.response.specs.Stages.{RecordsHeld, RowsRead};
 use crate::Verdict;
@@ -17,7 +17,11 @@ use tables::HEAD_SIZE;
 use tables::ROW_COUNT_AT;
 use tables::Refusal;
 use tables::TASK_COUNT_AT;
+use tables::VERSION_AT;
 use tables::fields::count;
+use tables::layout::Layout;
+use tables::records::ABOVE_EVERY_PRIORITY;
+use tables::records::Delays;
 use tables::records::TaskRecord;
 
 // The head is right: looks at the first record before room is made for all.
@@ -25,10 +29,39 @@ pub fn after_head(table: &[u8], answers: &mut [u32], rounds: &mut [u32]) -> Verd
     requires { ⌜ headCheck (now table) ≡ check.Clean ⌝ }
     ensures { λ r. ⌜ Outcome (now (table .entry)) (now (answers .entry)) (now (rounds .entry)) r (now (answers .exit)) (now (rounds .exit)) ⌝ }
 {
-    let task = tables::records::read(table, HEAD_SIZE);
-    let checked = tables::records::check_first(task);
+    let layout = tables::layout::of(table[VERSION_AT]);
+    let first = tables::records::read(table, HEAD_SIZE);
+    let checked = tables::records::check_numbers(first, HEAD_SIZE);
     match checked {
-        Check::Clean => after_first(table, task, answers, rounds),
+        Check::Clean => after_numbers(table, layout, first, answers, rounds),
+        Check::Refused(refusal) => Verdict::Refused(refusal),
+    }
+}
+
+// The first record's T, C and D are right: looks at what stands behind them.
+pub fn after_numbers(
+    table: &[u8],
+    layout: Layout,
+    first: TaskRecord,
+    answers: &mut [u32],
+    rounds: &mut [u32],
+) -> Verdict
+    requires { ⌜ layout ≡ layoutOf (now table) ⌝ }
+    requires { ⌜ headCheck (now table) ≡ check.Clean ⌝ }
+    requires { ⌜ NumbersRead (now table) 5 first ⌝ }
+    requires { ⌜ numbersFault first 5 ≡ check.Clean ⌝ }
+    ensures { λ r. ⌜ Outcome (now (table .entry)) (now (answers .entry)) (now (rounds .entry)) r (now (answers .exit)) (now (rounds .exit)) ⌝ }
+{
+    let delays = tables::records::read_delays(table, layout, HEAD_SIZE);
+    let checked = tables::records::check_rest(
+        delays,
+        first.priority,
+        layout,
+        HEAD_SIZE,
+        ABOVE_EVERY_PRIORITY,
+    );
+    match checked {
+        Check::Clean => after_first(table, layout, first, delays, answers, rounds),
         Check::Refused(refusal) => Verdict::Refused(refusal),
     }
 }
@@ -36,13 +69,17 @@ pub fn after_head(table: &[u8], answers: &mut [u32], rounds: &mut [u32]) -> Verd
 // The first record is right: reads the others.
 pub fn after_first(
     table: &[u8],
+    layout: Layout,
     first: TaskRecord,
+    delays: Delays,
     answers: &mut [u32],
     rounds: &mut [u32],
 ) -> Verdict
+    requires { ⌜ layout ≡ layoutOf (now table) ⌝ }
     requires { ⌜ headCheck (now table) ≡ check.Clean ⌝ }
     requires { ⌜ recordCheck (now table) 0 ≡ check.Clean ⌝ }
-    requires { ⌜ taskFrom first ≡ taskAt (now table) 0 ⌝ }
+    requires { ⌜ taskFrom first delays ≡ taskAt (now table) 0 ⌝ }
+    requires { ⌜ delays .earliest .0 ≤ delays .latest .0 ⌝ }
     ensures { λ r. ⌜ Outcome (now (table .entry)) (now (answers .entry)) (now (rounds .entry)) r (now (answers .exit)) (now (rounds .exit)) ⌝ }
 {
     let n = count(table[TASK_COUNT_AT]);
@@ -50,30 +87,36 @@ pub fn after_first(
     let mut periods = [0u32; 32];
     let mut costs = [0u32; 32];
     let mut deadlines = [0u32; 32];
-    let mut jitters = [0u32; 32];
+    let mut spreads = [0u32; 32];
+    let mut latest = [0u32; 32];
     priorities[0] = first.priority.0;
     periods[0] = first.period.0;
     costs[0] = first.cost.0;
     deadlines[0] = first.deadline.0;
-    jitters[0] = first.jitter.0;
+    spreads[0] = tables::records::spread(delays).0;
+    latest[0] = delays.latest.0;
     let checked = tables::records::read_rest(
         table,
+        layout,
         n,
         &mut priorities,
         &mut periods,
         &mut costs,
         &mut deadlines,
-        &mut jitters,
+        &mut spreads,
+        &mut latest,
     );
     match checked {
         Check::Clean => after_records(
             table,
+            layout,
             n,
             &priorities,
             &periods,
             &costs,
             &deadlines,
-            &jitters,
+            &spreads,
+            &latest,
             answers,
             rounds,
         ),
@@ -94,16 +137,19 @@ fn room(n: usize, answers: usize, rounds: usize) -> bool
 // The records are right: most tables have no rows, and then nothing is made ready for them.
 pub fn after_records(
     table: &[u8],
+    layout: Layout,
     n: usize,
     priorities: &[u8],
     periods: &[u32],
     costs: &[u32],
     deadlines: &[u32],
-    jitters: &[u32],
+    spreads: &[u32],
+    latest: &[u32],
     answers: &mut [u32],
     rounds: &mut [u32],
 ) -> Verdict
-    requires { ⌜ RecordsHeld (now table) n (now priorities) (now periods) (now costs) (now deadlines) (now jitters) ⌝ }
+    requires { ⌜ layout ≡ layoutOf (now table) ⌝ }
+    requires { ⌜ RecordsHeld (now table) n (now priorities) (now periods) (now costs) (now deadlines) (now spreads) (now latest) ⌝ }
     ensures { λ r. ⌜ Outcome (now (table .entry)) (now (answers .entry)) (now (rounds .entry)) r (now (answers .exit)) (now (rounds .exit)) ⌝ }
 {
     let m = count(table[ROW_COUNT_AT]);
@@ -115,20 +161,23 @@ pub fn after_records(
             periods,
             costs,
             deadlines,
-            jitters,
+            spreads,
+            latest,
             answers,
             rounds,
         );
     }
     with_rows(
         table,
+        layout,
         n,
         m,
         priorities,
         periods,
         costs,
         deadlines,
-        jitters,
+        spreads,
+        latest,
         answers,
         rounds,
     )
@@ -142,11 +191,12 @@ pub fn without_rows(
     periods: &[u32],
     costs: &[u32],
     deadlines: &[u32],
-    jitters: &[u32],
+    spreads: &[u32],
+    latest: &[u32],
     answers: &mut [u32],
     rounds: &mut [u32],
 ) -> Verdict
-    requires { ⌜ RecordsHeld (now table) n (now priorities) (now periods) (now costs) (now deadlines) (now jitters) ⌝ }
+    requires { ⌜ RecordsHeld (now table) n (now priorities) (now periods) (now costs) (now deadlines) (now spreads) (now latest) ⌝ }
     requires { ⌜ rowCount (now table) ≡ 0 ⌝ }
     ensures { λ r. ⌜ Outcome (now (table .entry)) (now (answers .entry)) (now (rounds .entry)) r (now (answers .exit)) (now (rounds .exit)) ⌝ }
 {
@@ -158,7 +208,8 @@ pub fn without_rows(
         periods,
         costs,
         deadlines,
-        jitters,
+        spreads,
+        latest,
         n,
         &priorities[..0],
         &priorities[..0],
@@ -172,17 +223,20 @@ pub fn without_rows(
 // Reads the m rows, then looks at the room.
 pub fn with_rows(
     table: &[u8],
+    layout: Layout,
     n: usize,
     m: usize,
     priorities: &[u8],
     periods: &[u32],
     costs: &[u32],
     deadlines: &[u32],
-    jitters: &[u32],
+    spreads: &[u32],
+    latest: &[u32],
     answers: &mut [u32],
     rounds: &mut [u32],
 ) -> Verdict
-    requires { ⌜ RecordsHeld (now table) n (now priorities) (now periods) (now costs) (now deadlines) (now jitters) ⌝ }
+    requires { ⌜ layout ≡ layoutOf (now table) ⌝ }
+    requires { ⌜ RecordsHeld (now table) n (now priorities) (now periods) (now costs) (now deadlines) (now spreads) (now latest) ⌝ }
     requires { ⌜ m ≡ rowCount (now table) ⌝ }
     ensures { λ r. ⌜ Outcome (now (table .entry)) (now (answers .entry)) (now (rounds .entry)) r (now (answers .exit)) (now (rounds .exit)) ⌝ }
 {
@@ -191,6 +245,7 @@ pub fn with_rows(
     let mut longest = [0u32; 64];
     let checked = tables::rows::read_all(
         table,
+        layout,
         n,
         m,
         costs,
@@ -209,7 +264,8 @@ pub fn with_rows(
                 periods,
                 costs,
                 deadlines,
-                jitters,
+                spreads,
+                latest,
                 n,
                 &places,
                 &semaphores,
@@ -230,7 +286,8 @@ pub fn after_rows(
     periods: &[u32],
     costs: &[u32],
     deadlines: &[u32],
-    jitters: &[u32],
+    spreads: &[u32],
+    latest: &[u32],
     n: usize,
     places: &[u8],
     semaphores: &[u8],
@@ -239,7 +296,7 @@ pub fn after_rows(
     answers: &mut [u32],
     rounds: &mut [u32],
 ) -> Verdict
-    requires { ⌜ RecordsHeld (now table) n (now priorities) (now periods) (now costs) (now deadlines) (now jitters) ⌝ }
+    requires { ⌜ RecordsHeld (now table) n (now priorities) (now periods) (now costs) (now deadlines) (now spreads) (now latest) ⌝ }
     requires { ⌜ RowsRead (now table) m (now places) (now semaphores) (now longest) ⌝ }
     requires { ⌜ (n ≤ length (now answers)) × (n ≤ length (now rounds)) ⌝ }
     ensures { λ r. ⌜ Outcome (now (table .entry)) (now (answers .entry)) (now (rounds .entry)) r (now (answers .exit)) (now (rounds .exit)) ⌝ }
@@ -252,7 +309,8 @@ pub fn after_rows(
         periods,
         costs,
         deadlines,
-        jitters,
+        spreads,
+        latest,
         n,
         &owners,
         &tops,

@@ -10,7 +10,7 @@ use lib.ListN.{length}
 use Rattle.model.specs.Tables.{Task, taskOf, loadsOf}
 use Rattle.equation.specs.Laws.{IsSmallest}
 use Rattle.equation.proofs.Laws.{answerMeans, smallestExists}
-use Rattle.runs.specs.Jobs.{Job, jobOf, TasksFit, NoJitter}
+use Rattle.runs.specs.Jobs.{Job, jobOf, TasksFit, NoDelay}
 use Rattle.runs.specs.Schedule.{Schedule, Finished, LegalSchedule, Run}
 use Rattle.runs.specs.Scheduler.{scheduleOf}
 use Rattle.runs.specs.Statement.{responseOf, OwnJob, releaseOf, FinishedAt, Answers, Demand3, OnlyAnswer}
@@ -21,7 +21,7 @@ use Rattle.runs.proofs.Together.{synchronous-legal, first-job}
 use Rattle.runs.proofs.Lower.{finished-demand}
 use Rattle.runs.proofs.Compute.{scheduleExists}
 
-module _ (tasks : List Task) (fit : TasksFit tasks) (calm : NoJitter tasks) (i : ℕ) (isTask : i < length tasks) where
+module _ (tasks : List Task) (fit : TasksFit tasks) (calm : NoDelay tasks) (i : ℕ) (isTask : i < length tasks) where
   -- w is the smallest solution
   abbrev Smallest : ℕ → Type 0
   Smallest w = IsSmallest (taskOf tasks i .cost) (loadsOf tasks i) w

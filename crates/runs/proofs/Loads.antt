@@ -9,10 +9,10 @@ use mathlib.Core.List.{List}
 use lib.ListN.{length}
 use borrow.Author.Tests.{lt-ltb, le-ltb}
 use Rattle.model.specs.Lists.{keep, total}
-use Rattle.model.specs.Tables.{Task, noTask, taskOf, loadOf, loadsOf, moreUrgent}
+use Rattle.model.specs.Tables.{Task, noTask, taskOf, loadOf, spreadOf, loadsOf, moreUrgent}
 use Rattle.equation.specs.Rounding.{ceilDiv}
 use Rattle.equation.specs.Demand.{share, demand}
-use Rattle.runs.specs.Jobs.{TasksFit, NoJitter}
+use Rattle.runs.specs.Jobs.{TasksFit, NoDelay}
 use Rattle.runs.proofs.Sums.{total-same, sum-map, sum-keep}
 
 -- what the task at place p asks for in w ticks
@@ -33,7 +33,7 @@ module _ (tasks : List Task) (fit : TasksFit tasks) where
   pub not-later : (i k : ℕ) → i < length tasks → taskOf tasks k .priority ≤ taskOf tasks i .priority → i ≤ k
   not-later i k h p = elim (decLt k i) [ yes l ↦ absurd (omega (arith, falls k i l h)) | no l ↦ omega arith ]
 
-  pub demand-is : NoJitter tasks → (base i w : ℕ) → i < length tasks →
+  pub demand-is : NoDelay tasks → (base i w : ℕ) → i < length tasks →
       demand base (loadsOf tasks i) w ≡ base + total (shareOf tasks w) i
   unfolding demand
   demand-is calm base i w h =
@@ -43,7 +43,10 @@ module _ (tasks : List Task) (fit : TasksFit tasks) where
       (λ p l. lt-ltb (taskOf tasks i .priority) (taskOf tasks p .priority) (falls p i l h))
       (λ p l m. le-ltb (taskOf tasks i .priority) (taskOf tasks p .priority) (later p l m))
       ∙ total-same (λ p. share w (loadOf (taskOf tasks p))) (shareOf tasks w) i
-      (λ p l. rw (calm p (omega arith), add-zero) refl))
+      (λ p l. rw (no-spread p (omega arith), add-zero) refl))
     where
+      no-spread : (p : ℕ) → p < length tasks → spreadOf (taskOf tasks p) ≡ 0
+      no-spread p l = omega (arith, calm p l)
+
       later : (p : ℕ) → i ≤ p → p < length tasks → taskOf tasks p .priority ≤ taskOf tasks i .priority
       later p l m = elim (ℕ-discrete i p) [ yes e ↦ rw e (omega arith) | no d ↦ omega (arith, falls i p (omega arith) m) ]

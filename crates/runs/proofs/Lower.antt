@@ -11,7 +11,7 @@ use lib.ListN.{length}
 use borrow.Author.Tests.{ltb-true}
 use Rattle.model.specs.Tables.{Task, taskOf, loadsOf}
 use Rattle.equation.specs.Demand.{demand}
-use Rattle.runs.specs.Jobs.{Job, jobOf, TasksFit, NoJitter}
+use Rattle.runs.specs.Jobs.{Job, jobOf, TasksFit, NoDelay}
 use Rattle.runs.specs.Schedule.{serves, Schedule, servedBefore, Finished, Ready, LegalSchedule}
 use Rattle.runs.specs.Synchronous.{synchronous, FirstJob}
 use Rattle.runs.proofs.Windows.{isBefore}
@@ -52,7 +52,7 @@ module _ (tasks : List Task) (fit : TasksFit tasks) (ticks : ℕ) (s : Schedule)
       ]
 
   -- so if the first job of i is finished at x, some f up to x is enough for all that is asked before it
-  pub finished-demand : NoJitter tasks → (x : ℕ) → x ≤ ticks → x ≤ taskOf tasks i .period → Finished jobs s j x →
+  pub finished-demand : NoDelay tasks → (x : ℕ) → x ≤ ticks → x ≤ taskOf tasks i .period → Finished jobs s j x →
       (f : ℕ) × (1 ≤ f) × (f ≤ x) × (demand (taskOf tasks i .cost) (loadsOf tasks i) f ≤ f)
   finished-demand calm x h short done =
       let last = last-tick jobs s j x (synchronous-legal tasks fit ticks .needLow j (first .isJob)) done in

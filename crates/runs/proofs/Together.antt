@@ -22,7 +22,7 @@ use Rattle.equation.specs.Rounding.{ceilDiv}
 use Rattle.equation.specs.Demand.{demand}
 use Rattle.equation.proofs.Laws.{roundingUp}
 use Rattle.equation.proofs.RoundingLaws.{positive}
-use Rattle.runs.specs.Jobs.{Job, noJob, jobOf, TasksFit, NoJitter, LegalJobs}
+use Rattle.runs.specs.Jobs.{Job, noJob, jobOf, TasksFit, NoDelay, LegalJobs}
 use Rattle.runs.specs.Synchronous.{jobAt, jobsAt, jobsBefore, synchronous, FirstJob, SynchronousIsRun}
 use Rattle.runs.proofs.Sums.{total-mono, total-zero, total-point, total-grows, total-first, sum-total, sum-tabulate}
 use Rattle.runs.proofs.Lists.{append-at, each-append}
@@ -232,7 +232,7 @@ module _ (tasks : List Task) (fit : TasksFit tasks) (ticks : ℕ) where
         ∙ rw (eq-eqb i i refl) refl
 
     -- and the places up to i have asked for demand(i, f) or more
-    pub asked-demand : NoJitter tasks → 1 ≤ f →
+    pub asked-demand : NoDelay tasks → 1 ≤ f →
         demand (taskOf tasks i .cost) (loadsOf tasks i) f ≤ asked (isBefore (suc i)) (synchronous tasks ticks) f
     unfolding total
     asked-demand calm low =

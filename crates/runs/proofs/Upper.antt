@@ -12,7 +12,7 @@ use Rattle.model.specs.Tables.{Task, taskOf, loadsOf}
 use Rattle.equation.specs.Rounding.{ceilDiv}
 use Rattle.equation.specs.Demand.{demand}
 use Rattle.equation.proofs.Laws.{roundingUp}
-use Rattle.runs.specs.Jobs.{Job, jobOf, TasksFit, NoJitter, LegalJobs}
+use Rattle.runs.specs.Jobs.{Job, jobOf, TasksFit, NoDelay, LegalJobs}
 use Rattle.runs.specs.Schedule.{Schedule, Finished, LegalSchedule}
 use Rattle.runs.proofs.Sums.{total-mono}
 use Rattle.runs.proofs.Windows.{released, released-places, needOf, isOf, isBefore}
@@ -40,7 +40,7 @@ module _ (tasks : List Task) (fit : TasksFit tasks) (ticks : ℕ) (jobs : List J
         );
       }
 
-  module _ (calm : NoJitter tasks) (i : ℕ) (isTask : i < length tasks) where
+  module _ (calm : NoDelay tasks) (i : ℕ) (isTask : i < length tasks) where
     -- in w ≤ T ticks the tasks up to place i ask for at most demand(i, w)
     asked-most : (a w : ℕ) → w ≤ taskOf tasks i .period →
         released (isBefore (suc i)) needOf jobs a (a + w) ≤ demand (taskOf tasks i .cost) (loadsOf tasks i) w

@@ -23,7 +23,7 @@ pub record IsDrawn (e : Example) : Type 0 where
 
 -- a task that is due at the end of its period
 abbrev task : ℕ → ℕ → ℕ → Task
-task priority period cost = record { priority = priority; period = period; cost = cost; deadline = period; jitter = 0 }
+task priority period cost = record { priority = priority; period = period; cost = cost; deadline = period; earliest = 0; latest = 0 }
 
 abbrev job : ℕ → ℕ → ℕ → Job
 job place release need = record { place = place; release = release; need = need }

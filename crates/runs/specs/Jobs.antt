@@ -16,9 +16,10 @@ pub record TasksFit (tasks : List Task) : Type 0 where
   pub deadlineHigh : (i : ℕ) → i < length tasks → taskOf tasks i .deadline ≤ taskOf tasks i .period
   pub fall : (i : ℕ) → suc i < length tasks → taskOf tasks (suc i) .priority < taskOf tasks i .priority
 
--- A run knows no jitter: its releases are when the jobs can be served.
-abbrev pub NoJitter : List Task → Type 0
-NoJitter tasks = (i : ℕ) → i < length tasks → taskOf tasks i .jitter ≡ 0
+-- A run knows no delay: its releases are when the jobs can be served. Where the latest delay is 0, the earliest, which is at most that,
+-- is 0 too.
+abbrev pub NoDelay : List Task → Type 0
+NoDelay tasks = (i : ℕ) → i < length tasks → taskOf tasks i .latest ≡ 0
 
 -- "Each job has a task, a release tick, and a need": the task is named by its place.
 pub record Job : Type 0 where

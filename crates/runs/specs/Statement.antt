@@ -6,7 +6,7 @@ use mathlib.Core.List.{List}
 use lib.ListN.{length}
 use Rattle.model.specs.Tables.{Task, taskOf, loadsOf}
 use Rattle.equation.specs.Answer.{answer}
-use Rattle.runs.specs.Jobs.{Job, jobOf, TasksFit, NoJitter, LegalJobs}
+use Rattle.runs.specs.Jobs.{Job, jobOf, TasksFit, NoDelay, LegalJobs}
 use Rattle.runs.specs.Schedule.{Schedule, Finished, LegalSchedule, Run}
 use Rattle.runs.specs.Scheduler.{scheduleOf}
 
@@ -35,13 +35,13 @@ pub record Answers (tasks : List Task) (i R : ℕ) : Type 0 where
   pub missed : R ≡ 0 → (run : Run tasks) × (job : OwnJob tasks i run) × (releaseOf job + taskOf tasks i .deadline ≤ run .ticks) ×
       (¬ FinishedAt job (releaseOf job + taskOf tasks i .deadline))
 
--- the answer of the equation for the task at place i, with no blocking and no jitter
+-- the answer of the equation for the task at place i, with no blocking and no delay
 abbrev pub responseOf : List Task → ℕ → ℕ
 responseOf tasks i = answer (taskOf tasks i .cost) (loadsOf tasks i) 0 (taskOf tasks i .deadline)
 
 -- Demand 3. "More urgent tasks may themselves be late; the statement still holds.": nothing is asked of the other tasks' answers.
 abbrev pub Demand3 : Type 0
-Demand3 = (tasks : List Task) → TasksFit tasks → NoJitter tasks → (i : ℕ) → i < length tasks → Answers tasks i (responseOf tasks i)
+Demand3 = (tasks : List Task) → TasksFit tasks → NoDelay tasks → (i : ℕ) → i < length tasks → Answers tasks i (responseOf tasks i)
 
 -- It says so of no other number up to the deadline: a generous one fails "some run", a small one fails "every job".
 abbrev pub OnlyAnswer : Type 0

@@ -10,7 +10,7 @@ use Rattle.model.specs.Choice.{both, on}
 use Rattle.model.specs.Lists.{tabulate, total}
 use Rattle.model.specs.Tables.{Task, taskOf}
 use Rattle.equation.specs.Rounding.{ceilDiv}
-use Rattle.runs.specs.Jobs.{Job, jobOf, TasksFit, NoJitter, LegalJobs}
+use Rattle.runs.specs.Jobs.{Job, jobOf, TasksFit, NoDelay, LegalJobs}
 use Rattle.runs.specs.Schedule.{Schedule, servedBefore, Finished, LegalSchedule}
 use Rattle.runs.specs.Statement.{responseOf}
 
@@ -64,6 +64,6 @@ pub record WorstRun (tasks : List Task) (ticks : ℕ) (s : Schedule) (i j x : �
 -- worst run.
 abbrev pub SynchronousIsWorst : Type 0
 SynchronousIsWorst =
-    (tasks : List Task) → TasksFit tasks → NoJitter tasks → (ticks : ℕ) (s : Schedule) →
+    (tasks : List Task) → TasksFit tasks → NoDelay tasks → (ticks : ℕ) (s : Schedule) →
     LegalSchedule tasks ticks (synchronous tasks ticks) s → (i j : ℕ) → i < length tasks → FirstJob (synchronous tasks ticks) i j →
     (x : ℕ) → x ≤ ticks → x ≤ taskOf tasks i .deadline → WorstRun tasks ticks s i j x

@@ -4,23 +4,24 @@ use Prim.Native.Nat.{ℕ}
 use mathlib.Core.Path.{_≡_, refl, sym, _∙_, ap, subst}
 use mathlib.Core.List.{List}
 use mathlib.Core.Logic.{inl, inr}
-use lib.Dec.{eqb, leb}
+use lib.Dec.{leb}
 use lib.ListN.{length}
-use borrow.Author.Tests.{eqb-true, eq-eqb, leb-true, le-leb}
+use borrow.Author.Tests.{leb-true, le-leb}
 use Rattle.model.specs.Choice.{both}
 use Rattle.model.proofs.First as first-laws
 use Rattle.tables.specs.declared.Refusal.{Refusal}
 use Rattle.tables.specs.declared.Refusal.the-variants.{TooShort, UnknownVersion, CountOutOfRange, LengthsDiffer, NumberOutOfRange, PriorityOutOfOrder, SectionRow, NoRoom, NotPlayable}
 use Rattle.tables.specs.declared.Check.the-variants.{Clean, Refused}
-use Rattle.tables.specs.Layout.{versionOf, taskCount, rowCount}
+use Rattle.tables.specs.Layout.{layoutOf, taskCount, rowCount}
 use Rattle.tables.specs.Refusals.{isClean, unless, firstIn}
-use Rattle.tables.specs.Fields.{CountField, taskCountField, rowCountField, countOrder, countRefusal, RecordField, periodField, costField, deadlineField, jitterField, priorityField, recordOrder, refusalInRecord, RowField, placeField, semaphoreField, longestField, orderField, rowOrder, refusalInRow}
+use Rattle.tables.specs.Fields.{CountField, taskCountField, rowCountField, countOrder, countRefusal, RecordField, periodField, costField, deadlineField, earliestField, latestField, priorityField, recordOrder, refusalInRecord, RowField, placeField, semaphoreField, longestField, orderField, rowOrder, refusalInRow}
 use Rattle.tables.specs.Rules.{lengthsAgree}
 use Rattle.tables.specs.Checks.{countsCheck, recordCheck, rowCheck, headCheck, recordsCheck, rowsCheck, roomCheck, tableCheck, recordsRead, rowsRead}
 use Rattle.tables.specs.Meaning.{LongEnough, VersionKnown, CountRight, CountsRight, RecordFieldRight, RowFieldRight, RoomFor, HeadRight, RecordsRight, RowsRight, TableRight}
 use Rattle.tables.specs.Deserved.{Each, CountFault, RecordFault, RowFault, Deserved}
 use Rattle.tables.proofs.FaultLaws.{all-right, all-clean, fault-found, fault-refused}
 use Rattle.tables.proofs.FieldLaws.{never-refused, unless-clean, unless-refused, unless-pass, unless-fails, first-clean, both-clean, first-refused, then-refused, stop-refused, broken, fails, each-of, fields-right, fields-clean, fields-refused, broken-refused}
+use Rattle.tables.proofs.LayoutLaws.{known-means, known-holds}
 use Rattle.tables.proofs.MeaningLaws as meaning
 
 module _ (bytes : List ℕ) where
@@ -54,8 +55,9 @@ module _ (bytes : List ℕ) where
   record-every i each periodField = each .0
   record-every i each costField = each .1 .0
   record-every i each deadlineField = each .1 .1 .0
-  record-every i each jitterField = each .1 .1 .1 .0
-  record-every i each priorityField = each .1 .1 .1 .1 .0
+  record-every i each earliestField = each .1 .1 .1 .0
+  record-every i each latestField = each .1 .1 .1 .1 .0
+  record-every i each priorityField = each .1 .1 .1 .1 .1 .0
 
   row-every : (k : ℕ) → Each (RowFieldRight bytes k) rowOrder → (field : RowField) → RowFieldRight bytes k field
   row-every k each placeField = each .0
@@ -67,12 +69,12 @@ module _ (bytes : List ℕ) where
   unfolding headCheck firstIn
   head-right e =
       let a = first-clean (unless (leb 5 (length bytes)) TooShort) _ e in
-      let b = first-clean (unless (eqb (versionOf bytes) 1) UnknownVersion) _ (a .1) in
+      let b = first-clean (unless (layoutOf bytes .known) UnknownVersion) _ (a .1) in
       let c = first-clean (countsCheck bytes) _ (b .1) in
       let d = first-clean (unless (lengthsAgree bytes) LengthsDiffer) _ (c .1) in
       record {
         longEnough = leb-true 5 (length bytes) (unless-clean _ _ (a .0));
-        version = eqb-true (versionOf bytes) 1 (unless-clean _ _ (b .0));
+        version = known-means bytes (unless-clean _ _ (b .0));
         counts = counts-right (c .0);
         lengths = meaning.lengths-mean bytes (unless-clean _ _ (d .0));
       }
@@ -81,49 +83,49 @@ module _ (bytes : List ℕ) where
   unfolding headCheck firstIn
   head-clean h =
       both-clean _ _ (unless-pass (leb 5 (length bytes)) _ (le-leb 5 (length bytes) (h .longEnough)))
-      (both-clean _ _ (unless-pass (eqb (versionOf bytes) 1) _ (eq-eqb (versionOf bytes) 1 (h .version)))
+      (both-clean _ _ (unless-pass (layoutOf bytes .known) _ (known-holds bytes (h .version)))
       (both-clean _ _ (counts-clean (h .counts))
       (both-clean _ _ (unless-pass (lengthsAgree bytes) _ (meaning.lengths-hold bytes (h .lengths))) refl)))
 
   pub records-right : recordsCheck bytes ≡ Clean → RecordsRight bytes (taskCount bytes)
   unfolding recordsCheck recordCheck
   records-right e =
-      all-right (RecordFieldRight bytes) _ refusalInRecord recordOrder (meaning.record-means bytes) (meaning.record-holds bytes) record-every (taskCount bytes) e
+      all-right (RecordFieldRight bytes) _ (refusalInRecord (layoutOf bytes)) recordOrder (meaning.record-means bytes) (meaning.record-holds bytes) record-every (taskCount bytes) e
 
   records-clean : RecordsRight bytes (taskCount bytes) → recordsCheck bytes ≡ Clean
   unfolding recordsCheck recordCheck
   records-clean right =
-      all-clean (RecordFieldRight bytes) _ refusalInRecord recordOrder (meaning.record-means bytes) (meaning.record-holds bytes) record-every (taskCount bytes) right
+      all-clean (RecordFieldRight bytes) _ (refusalInRecord (layoutOf bytes)) recordOrder (meaning.record-means bytes) (meaning.record-holds bytes) record-every (taskCount bytes) right
 
   records-refused : (r : Refusal) → recordsCheck bytes ≡ Refused r → RecordFault bytes r
   unfolding recordsCheck recordCheck
   records-refused r e =
-      fault-found (RecordFieldRight bytes) _ refusalInRecord recordOrder (meaning.record-means bytes) (meaning.record-holds bytes) record-every (taskCount bytes) r e
+      fault-found (RecordFieldRight bytes) _ (refusalInRecord (layoutOf bytes)) recordOrder (meaning.record-means bytes) (meaning.record-holds bytes) record-every (taskCount bytes) r e
 
   records-give : (r : Refusal) → RecordFault bytes r → recordsCheck bytes ≡ Refused r
   unfolding recordsCheck recordCheck
   records-give r f =
-      fault-refused (RecordFieldRight bytes) _ refusalInRecord recordOrder (meaning.record-means bytes) (meaning.record-holds bytes) record-every (taskCount bytes) r f
+      fault-refused (RecordFieldRight bytes) _ (refusalInRecord (layoutOf bytes)) recordOrder (meaning.record-means bytes) (meaning.record-holds bytes) record-every (taskCount bytes) r f
 
   pub rows-right : rowsCheck bytes ≡ Clean → RowsRight bytes (rowCount bytes)
   unfolding rowsCheck rowCheck
   rows-right e =
-      all-right (RowFieldRight bytes) _ (refusalInRow (taskCount bytes)) rowOrder (meaning.row-means bytes) (meaning.row-holds bytes) row-every (rowCount bytes) e
+      all-right (RowFieldRight bytes) _ (refusalInRow (layoutOf bytes) (taskCount bytes)) rowOrder (meaning.row-means bytes) (meaning.row-holds bytes) row-every (rowCount bytes) e
 
   rows-clean : RowsRight bytes (rowCount bytes) → rowsCheck bytes ≡ Clean
   unfolding rowsCheck rowCheck
   rows-clean right =
-      all-clean (RowFieldRight bytes) _ (refusalInRow (taskCount bytes)) rowOrder (meaning.row-means bytes) (meaning.row-holds bytes) row-every (rowCount bytes) right
+      all-clean (RowFieldRight bytes) _ (refusalInRow (layoutOf bytes) (taskCount bytes)) rowOrder (meaning.row-means bytes) (meaning.row-holds bytes) row-every (rowCount bytes) right
 
   rows-refused : (r : Refusal) → rowsCheck bytes ≡ Refused r → RowFault bytes r
   unfolding rowsCheck rowCheck
   rows-refused r e =
-      fault-found (RowFieldRight bytes) _ (refusalInRow (taskCount bytes)) rowOrder (meaning.row-means bytes) (meaning.row-holds bytes) row-every (rowCount bytes) r e
+      fault-found (RowFieldRight bytes) _ (refusalInRow (layoutOf bytes) (taskCount bytes)) rowOrder (meaning.row-means bytes) (meaning.row-holds bytes) row-every (rowCount bytes) r e
 
   rows-give : (r : Refusal) → RowFault bytes r → rowsCheck bytes ≡ Refused r
   unfolding rowsCheck rowCheck
   rows-give r f =
-      fault-refused (RowFieldRight bytes) _ (refusalInRow (taskCount bytes)) rowOrder (meaning.row-means bytes) (meaning.row-holds bytes) row-every (rowCount bytes) r f
+      fault-refused (RowFieldRight bytes) _ (refusalInRow (layoutOf bytes) (taskCount bytes)) rowOrder (meaning.row-means bytes) (meaning.row-holds bytes) row-every (rowCount bytes) r f
 
   -- where no record, or no row, is at fault, all are read
   pub records-all : recordsCheck bytes ≡ Clean → recordsRead bytes ≡ taskCount bytes
@@ -169,17 +171,18 @@ module _ (bytes : List ℕ) where
     record-deserved : (r : Refusal) → HeadRight bytes → RecordFault bytes r → Deserved bytes answers rounds r
     record-deserved r head f = deserve (sym (f .given)) (go (f .field) (subst (RecordFault bytes) (f .given) f))
       where
-        go : (field : RecordField) → RecordFault bytes (refusalInRecord (f .i) field) → Deserved bytes answers rounds (refusalInRecord (f .i) field)
+        go : (field : RecordField) → RecordFault bytes (refusalInRecord (layoutOf bytes) (f .i) field) → Deserved bytes answers rounds (refusalInRecord (layoutOf bytes) (f .i) field)
         go periodField own = (head, own)
         go costField own = (head, own)
         go deadlineField own = (head, own)
-        go jitterField own = (head, own)
+        go earliestField own = (head, own)
+        go latestField own = (head, own)
         go priorityField own = (head, own)
 
     row-deserved : (r : Refusal) → HeadRight bytes → RecordsRight bytes (taskCount bytes) → RowFault bytes r → Deserved bytes answers rounds r
     row-deserved r head records f = deserve (sym (f .given)) (go (f .field) (subst (RowFault bytes) (f .given) f))
       where
-        go : (field : RowField) → RowFault bytes (refusalInRow (taskCount bytes) (f .i) field) → Deserved bytes answers rounds (refusalInRow (taskCount bytes) (f .i) field)
+        go : (field : RowField) → RowFault bytes (refusalInRow (layoutOf bytes) (taskCount bytes) (f .i) field) → Deserved bytes answers rounds (refusalInRow (layoutOf bytes) (taskCount bytes) (f .i) field)
         go placeField own = (head, records, own)
         go semaphoreField own = (head, records, own)
         go longestField own = (head, records, own)
@@ -194,12 +197,12 @@ module _ (bytes : List ℕ) where
               deserve (u .1) (broken (le-leb 5 (length bytes)) (u .0))
           | inr p ↦
               let long = leb-true 5 (length bytes) (unless-clean _ _ (p .0)) in
-              elim (first-refused (unless (eqb (versionOf bytes) 1) UnknownVersion) _ (p .1)) [
+              elim (first-refused (unless (layoutOf bytes .known) UnknownVersion) _ (p .1)) [
                 | inl q ↦
-                    let u = unless-refused (eqb (versionOf bytes) 1) _ _ q in
-                    deserve (u .1) (long, broken (eq-eqb (versionOf bytes) 1) (u .0))
+                    let u = unless-refused (layoutOf bytes .known) _ _ q in
+                    deserve (u .1) (long, broken (known-holds bytes) (u .0))
                 | inr q ↦
-                    let version = eqb-true (versionOf bytes) 1 (unless-clean _ _ (q .0)) in
+                    let version = known-means bytes (unless-clean _ _ (q .0)) in
                     elim (first-refused (countsCheck bytes) _ (q .1)) [
                       | inl s ↦ count-deserved r long version (counts-refused r s)
                       | inr s ↦
@@ -245,8 +248,8 @@ module _ (bytes : List ℕ) where
     long-passes : LongEnough bytes → unless (leb 5 (length bytes)) TooShort ≡ Clean
     long-passes h = unless-pass (leb 5 (length bytes)) TooShort (le-leb 5 (length bytes) h)
 
-    version-passes : VersionKnown bytes → unless (eqb (versionOf bytes) 1) UnknownVersion ≡ Clean
-    version-passes h = unless-pass (eqb (versionOf bytes) 1) UnknownVersion (eq-eqb (versionOf bytes) 1 h)
+    version-passes : VersionKnown bytes → unless (layoutOf bytes .known) UnknownVersion ≡ Clean
+    version-passes h = unless-pass (layoutOf bytes .known) UnknownVersion (known-holds bytes h)
 
     from-head : (r : Refusal) → headCheck bytes ≡ Refused r → tableCheck bytes answers rounds ≡ Refused r
     unfolding tableCheck firstIn
@@ -273,8 +276,8 @@ module _ (bytes : List ℕ) where
         from-head UnknownVersion
         (then-refused _ _ UnknownVersion (long-passes (d .0))
         (stop-refused _ _ UnknownVersion
-        (unless-fails (eqb (versionOf bytes) 1) UnknownVersion
-        (fails (eqb (versionOf bytes) 1) (eqb-true (versionOf bytes) 1) (d .1)))))
+        (unless-fails (layoutOf bytes .known) UnknownVersion
+        (fails (layoutOf bytes .known) (known-means bytes) (d .1)))))
     table-gives (CountOutOfRange place) d =
         from-head (CountOutOfRange place)
         (then-refused _ _ (CountOutOfRange place) (long-passes (d .0))

@@ -6,7 +6,7 @@ use mathlib.Core.Bool.{Bool, true, false}
 use mathlib.Core.List.{List, [], _∷_, _++_}
 use mathlib.Core.Logic.{_⊎_, inl, inr}
 use Rattle.model.specs.Search.{firstOf, cleanCount}
-use Rattle.model.proofs.Tests.{clash}
+use Rattle.model.proofs.Tests.{bool?, clash}
 use Rattle.model.proofs.First as first-laws
 use Rattle.tables.specs.declared.Refusal.{Refusal}
 use Rattle.tables.specs.declared.Check.{Check}
@@ -20,11 +20,11 @@ clean-only (Refused r) p = absurd (clash false p refl)
 
 -- checks 0 to k − 1 are clean: what a reader that takes them in turn has found where it stops
 module _ (check : ℕ → Check) (k : ℕ) (clean : firstOf isClean Clean check k ≡ Clean) where
-  pub stops-at : (n : ℕ) → k < n → (r : Refusal) → check k ≡ Refused r →
-      (Refused r ≡ firstOf isClean Clean check n) × (cleanCount isClean Clean check n ≡ k)
-  stops-at n inside r fault = (
-    sym (first-laws.first-stop isClean Clean refl check k clean (ap isClean fault) n inside ∙ fault),
-    first-laws.count-stop isClean Clean refl check k clean (ap isClean fault) n inside,
+  pub stops-at : (n : ℕ) → k < n → (found : Check) → check k ≡ found → isClean found ≡ false →
+      (found ≡ firstOf isClean Clean check n) × (cleanCount isClean Clean check n ≡ k)
+  stops-at n inside found is wrong = (
+    sym (first-laws.first-stop isClean Clean refl check k clean (ap isClean is ∙ wrong) n inside ∙ is),
+    first-laws.count-stop isClean Clean refl check k clean (ap isClean is ∙ wrong) n inside,
   )
 
   pub goes-on : check k ≡ Clean → firstOf isClean Clean check (k + 1) ≡ Clean
@@ -78,6 +78,12 @@ then-refused check later r p q = rw p q
 pub stop-refused : (check later : Check) (r : Refusal) → check ≡ Refused r → orElse check later ≡ Refused r
 unfolding orElse
 stop-refused check later r p = rw p
+
+-- a check that is not clean decides
+pub stops-here : (check later : Check) → isClean check ≡ false → orElse check later ≡ check
+unfolding orElse
+stops-here Clean later wrong = absurd (clash true refl wrong)
+stops-here (Refused r) later wrong = refl
 
 -- a rule that its test refutes does not hold, and a rule that does not hold fails its test
 pub broken : {Rule : Type 0} {test : Bool} → (Rule → test ≡ true) → test ≡ false → ¬ Rule
@@ -146,6 +152,17 @@ module _ {F : Type 0} (Right : F → Type 0) (test : F → Bool) (refusal : F �
       subst (λ (o : List F). fieldsCheck test refusal o ≡ Refused (refusal field)) (sym (b .stands))
       (behind (b .before) (b .after) field (b .kept) (b .broken))
 
+-- fields tested in two steps
+pub fields-split : {F : Type 0} (test : F → Bool) (refusal : F → Refusal) (before after : List F) →
+    fieldsCheck test refusal (before ++ after) ≡ orElse (fieldsCheck test refusal before) (fieldsCheck test refusal after)
+unfolding fieldsCheck firstIn orElse unless
+fields-split test refusal [] after = refl
+fields-split test refusal (field ∷ before) after =
+    elim (bool? (test field)) [
+      | inl p ↦ rw (p, fields-split test refusal before after)
+      | inr p ↦ rw p
+    ]
+
 -- the same by the tests alone: those before the first that fails pass
 module _ {F : Type 0} (test : F → Bool) (refusal : F → Refusal) where
   abbrev pub Passes : F → Type 0
@@ -158,3 +175,6 @@ module _ {F : Type 0} (test : F → Bool) (refusal : F → Refusal) where
 
   pub tests-pass : (order : List F) → Each Passes order → fieldsCheck test refusal order ≡ Clean
   tests-pass order kept = fields-clean Passes test refusal (λ f p. p) (λ f p. p) order kept
+
+  pub tests-passed : (order : List F) → fieldsCheck test refusal order ≡ Clean → Each Passes order
+  tests-passed order e = fields-right Passes test refusal (λ f p. p) (λ f p. p) order e

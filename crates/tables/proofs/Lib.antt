@@ -1,3 +1,4 @@
+pub mod LayoutLaws
 pub mod FieldLaws
 pub mod FaultLaws
 pub mod MeaningLaws

@@ -13,8 +13,8 @@ use borrow.Author.Tests.{eqb-true, eq-eqb, ne-eqb, ltb-true, lt-ltb, leb-true, l
 use Rattle.model.specs.Choice.{both, either}
 use Rattle.model.specs.Tables.{Row}
 use Rattle.model.proofs.Tests.{ltb?, both-true, both-pass, either-right, either-true}
-use Rattle.tables.specs.Layout.{statedLength, taskCount, rowCount, taskAt, rowAt, priorityIn, periodIn, costIn, deadlineIn, jitterIn, placeIn, semaphoreIn, longestIn}
-use Rattle.tables.specs.Fields.{CountField, taskCountField, rowCountField, RecordField, periodField, costField, deadlineField, jitterField, priorityField, RowField, placeField, semaphoreField, longestField, orderField}
+use Rattle.tables.specs.Layout.{layoutOf, statedLength, taskCount, rowCount, taskAt, rowAt, priorityIn, periodIn, costIn, deadlineIn, earliestIn, latestIn, placeIn, semaphoreIn, longestIn}
+use Rattle.tables.specs.Fields.{CountField, taskCountField, rowCountField, RecordField, periodField, costField, deadlineField, earliestField, latestField, priorityField, RowField, placeField, semaphoreField, longestField, orderField}
 use Rattle.tables.specs.Rules.{between, countTest, lengthsAgree, priorityFits, recordTest, rowAfter, rowInOrder, rowTest}
 use Rattle.tables.specs.Checks.{rowTests}
 use Rattle.tables.specs.Meaning.{Within, CountRight, LengthsEqual, PriorityInOrder, RecordFieldRight, RowsRise, RowFieldRight, RoomFor}
@@ -28,14 +28,14 @@ between-holds : (low high x : ℕ) → Within low high x → between low high x 
 between-holds low high x w = both-pass (le-leb low x (w .low)) (le-leb x high (w .high))
 
 module _ (bytes : List ℕ) where
-  pub count-means : (field : CountField) → countTest (taskCount bytes) (rowCount bytes) field ≡ true → CountRight bytes field
+  pub count-means : (field : CountField) → countTest (layoutOf bytes .most) (taskCount bytes) (rowCount bytes) field ≡ true → CountRight bytes field
   unfolding countTest
-  count-means taskCountField p = between-means 1 32 (taskCount bytes) p
+  count-means taskCountField p = between-means 1 (layoutOf bytes .most) (taskCount bytes) p
   count-means rowCountField p = between-means 0 64 (rowCount bytes) p
 
-  pub count-holds : (field : CountField) → CountRight bytes field → countTest (taskCount bytes) (rowCount bytes) field ≡ true
+  pub count-holds : (field : CountField) → CountRight bytes field → countTest (layoutOf bytes .most) (taskCount bytes) (rowCount bytes) field ≡ true
   unfolding countTest
-  count-holds taskCountField r = between-holds 1 32 (taskCount bytes) r
+  count-holds taskCountField r = between-holds 1 (layoutOf bytes .most) (taskCount bytes) r
   count-holds rowCountField r = between-holds 0 64 (rowCount bytes) r
 
   pub lengths-mean : lengthsAgree bytes ≡ true → LengthsEqual bytes
@@ -79,7 +79,8 @@ module _ (bytes : List ℕ) where
   record-means i periodField p = between-means 1 1000000 (periodIn bytes i) p
   record-means i costField p = between-means 1 1000000 (costIn bytes i) p
   record-means i deadlineField p = between-means 1 (periodIn bytes i) (deadlineIn bytes i) p
-  record-means i jitterField p = between-means 0 1000000 (jitterIn bytes i) p
+  record-means i earliestField p = between-means 0 1000000 (earliestIn bytes i) p
+  record-means i latestField p = between-means (earliestIn bytes i) 1000000 (latestIn bytes i) p
   record-means i priorityField p = priority-means i p
 
   pub record-holds : (i : ℕ) (field : RecordField) → RecordFieldRight bytes i field →
@@ -88,7 +89,8 @@ module _ (bytes : List ℕ) where
   record-holds i periodField r = between-holds 1 1000000 (periodIn bytes i) r
   record-holds i costField r = between-holds 1 1000000 (costIn bytes i) r
   record-holds i deadlineField r = between-holds 1 (periodIn bytes i) (deadlineIn bytes i) r
-  record-holds i jitterField r = between-holds 0 1000000 (jitterIn bytes i) r
+  record-holds i earliestField r = between-holds 0 1000000 (earliestIn bytes i) r
+  record-holds i latestField r = between-holds (earliestIn bytes i) 1000000 (latestIn bytes i) r
   record-holds i priorityField r = priority-holds i r
 
 rise-means : (before row : Row) → rowAfter before row ≡ true → RowsRise before row

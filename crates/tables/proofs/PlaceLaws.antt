@@ -1,28 +1,32 @@
 -- How far on the place of a refusal can be.
 -- Assumes nothing.
-use Prim.Native.Nat.{ℕ, _+_, _<_}
+use Prim.Native.Nat.{ℕ, _+_, _≤_, _<_}
 use native.Mathlib.Omega.{arith}
 use mathlib.Core.Path.{ap}
 use mathlib.Core.List.{List}
+use Rattle.tables.specs.declared.layout.Layout.{Layout}
 use Rattle.tables.specs.declared.Refusal.{Refusal}
 use Rattle.tables.specs.declared.Refusal.the-variants.{TooShort, UnknownVersion, CountOutOfRange, LengthsDiffer, NumberOutOfRange, PriorityOutOfOrder, SectionRow, NoRoom, NotPlayable}
-use Rattle.tables.specs.Layout.{taskCount, recordStart, rowStart}
+use Rattle.tables.specs.Layout.{layoutOf, taskCount, recordStart, rowStart}
 use Rattle.tables.specs.Refusals.{placeOf}
-use Rattle.tables.specs.Fields.{CountField, taskCountField, rowCountField, countRefusal, RecordField, periodField, costField, deadlineField, jitterField, priorityField, recordRefusal, RowField, placeField, semaphoreField, longestField, orderField, rowRefusal}
+use Rattle.tables.specs.Fields.{CountField, taskCountField, rowCountField, countRefusal, RecordField, periodField, costField, deadlineField, earliestField, latestField, priorityField, recordRefusal, RowField, placeField, semaphoreField, longestField, orderField, rowRefusal}
 use Rattle.tables.specs.Meaning.{HeadRight}
+use Rattle.tables.specs.Reading.{Sound}
 use Rattle.tables.specs.Deserved.{RecordFault, Deserved}
+use Rattle.tables.proofs.LayoutLaws.{layout-sound, record-inside, start-small}
 
 -- a field's first byte lies in the head, in its record, in its row
 count-place : (field : CountField) → placeOf (countRefusal field) < 5
 count-place taskCountField = omega arith
 count-place rowCountField = omega arith
 
-record-place : (start : ℕ) (field : RecordField) → placeOf (recordRefusal start field) < start + 17
-record-place start periodField = omega arith
-record-place start costField = omega arith
-record-place start deadlineField = omega arith
-record-place start jitterField = omega arith
-record-place start priorityField = omega arith
+record-place : (layout : Layout) → Sound layout → (start : ℕ) (field : RecordField) → placeOf (recordRefusal layout start field) < start + layout .size
+record-place layout s start periodField = omega (arith, s .fields, s .latestInside)
+record-place layout s start costField = omega (arith, s .fields, s .latestInside)
+record-place layout s start deadlineField = omega (arith, s .fields, s .latestInside)
+record-place layout s start earliestField = omega (arith, s .fields, s .latestInside)
+record-place layout s start latestField = omega (arith, s .fields, s .latestInside)
+record-place layout s start priorityField = omega (arith, s .fields, s .latestInside)
 
 row-place : (start : ℕ) (field : RowField) → placeOf (rowRefusal start field) < start + 6
 row-place start placeField = omega arith
@@ -30,9 +34,22 @@ row-place start semaphoreField = omega arith
 row-place start longestField = omega arith
 row-place start orderField = omega arith
 
+-- where the rows begin
+records-end : (bytes : List ℕ) → HeadRight bytes → recordStart (layoutOf bytes) (taskCount bytes) ≤ 677
+records-end bytes head =
+    let s = layout-sound bytes (head .version) in
+    start-small (layoutOf bytes) s (omega (arith, head .counts taskCountField .high, s .few))
+
 fault-place : (bytes : List ℕ) (r : Refusal) → HeadRight bytes → RecordFault bytes r → placeOf r < 65536
 fault-place bytes r head f =
-    omega (arith, ap placeOf (f .given), record-place (recordStart (f .i)) (f .field), f .inside, head .counts taskCountField .high)
+    let s = layout-sound bytes (head .version) in
+    omega (
+      arith,
+      ap placeOf (f .given),
+      record-place (layoutOf bytes) s (recordStart (layoutOf bytes) (f .i)) (f .field),
+      record-inside (layoutOf bytes) (f .inside),
+      records-end bytes head,
+    )
 
 -- "1–2: length of the whole table in bytes": no place reaches past what two bytes can state
 pub refusal-place : (bytes : List ℕ) (answers rounds : ℕ) (r : Refusal) → Deserved bytes answers rounds r → placeOf r < 65536
@@ -44,14 +61,13 @@ refusal-place bytes answers rounds (NumberOutOfRange place) d = fault-place byte
 refusal-place bytes answers rounds (PriorityOutOfOrder place) d = fault-place bytes (PriorityOutOfOrder place) (d .0) (d .1)
 refusal-place bytes answers rounds (SectionRow place) d =
     let f = d .2 in
-    let counts = d .0 .counts in
     omega (
       arith,
       ap placeOf (f .given),
-      row-place (rowStart (taskCount bytes) (f .i)) (f .field),
+      row-place (rowStart (layoutOf bytes) (taskCount bytes) (f .i)) (f .field),
       f .inside,
-      counts taskCountField .high,
-      counts rowCountField .high,
+      records-end bytes (d .0),
+      d .0 .counts rowCountField .high,
     )
 refusal-place bytes answers rounds NoRoom d = omega arith
 refusal-place bytes answers rounds NotPlayable d = omega arith

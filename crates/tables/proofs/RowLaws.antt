@@ -16,15 +16,17 @@ use Rattle.model.specs.Tables.{Row}
 use Rattle.model.specs.Search.{firstOf}
 use Rattle.model.proofs.Tests.{ltb?}
 use Rattle.model.proofs.First as first-laws
+use Rattle.tables.specs.declared.layout.Layout.{Layout}
 use Rattle.tables.specs.declared.Check.{Check}
 use Rattle.tables.specs.declared.Check.the-variants.{Clean, Refused}
 use Rattle.tables.specs.declared.Refusal.{Refusal}
-use Rattle.tables.specs.Layout.{taskCount, rowCount, rowStart, rowFrom, rowAt, costIn, placeIn, semaphoreIn}
+use Rattle.tables.specs.Layout.{layoutOf, taskCount, rowCount, recordStart, rowStart, rowFrom, rowAt, costIn, placeIn, semaphoreIn}
 use Rattle.tables.specs.Refusals.{isClean, unless, orElse, firstIn, fieldsCheck}
 use Rattle.tables.specs.Fields.{rowOrder, rowRefusal}
 use Rattle.tables.specs.Rules.{between, rowInOrder, rowAfter, rowTest}
 use Rattle.tables.specs.Checks.{rowCheck, rowsCheck, rowsRead}
-use Rattle.tables.specs.Reading.{RowsFit, rowKey, rowFault}
+use Rattle.tables.specs.Reading.{Sound, RowsFit, rowKey, rowFault}
+use Rattle.tables.proofs.LayoutLaws.{start-small}
 use Rattle.tables.proofs.FieldLaws.{stops-at, goes-on, goes-through}
 use Rattle.tables.proofs.MeaningLaws.{between-means}
 
@@ -35,15 +37,16 @@ keyBefore bytes (suc k) = rowKey (rowAt bytes k)
 
 -- before row k is read
 pub record Scanning (bytes : List ℕ) (n m : ℕ) (costs : List ℕ) (k start before : ℕ) : Type 0 where
+  pub sound : Sound (layoutOf bytes)
   pub tasksCounted : n ≡ taskCount bytes
   pub rowsCounted : m ≡ rowCount bytes
   pub fewTasks : n ≤ 32
   pub fewRows : m ≤ 64
-  pub fits : rowStart n m ≤ length bytes
+  pub fits : rowStart (layoutOf bytes) n m ≤ length bytes
   pub costsLong : n ≤ length costs
   pub costsRead : (i : ℕ) → i < n → getD costs i 0 ≡ costIn bytes i
   pub within : k ≤ m
-  pub here : start ≡ rowStart n k
+  pub here : start ≡ rowStart (layoutOf bytes) n k
   pub clean : firstOf isClean Clean (rowCheck bytes) k ≡ Clean
   pub last : before ≡ keyBefore bytes k
   pub byte : (j : ℕ) → suc j ≡ k → semaphoreIn bytes j < 256
@@ -85,20 +88,21 @@ row-same n start {cost} {cost′} {inOrder} {inOrder′} row costs orders =
     (λ right. rw (orders (between-means 1 16 (row .semaphore) right .low)))))
 
 module _ (bytes : List ℕ) (n m : ℕ) (costs : List ℕ) where
-  pub scanning-none : {places semaphores longest : List ℕ} → RowsFit bytes n m costs places semaphores longest →
-      Scanning bytes n m costs 0 (5 + 17 * n) 0
+  pub scanning-none : (layout : Layout) {places semaphores longest : List ℕ} → RowsFit bytes layout n m costs places semaphores longest →
+      Scanning bytes n m costs 0 (5 + layout .size * n) 0
   unfolding keyBefore
-  scanning-none f =
+  scanning-none layout f =
       record {
+        sound = subst Sound (f .decided) (f .sound);
         tasksCounted = f .tasksCounted;
         rowsCounted = f .rowsCounted;
         fewTasks = f .fewTasks;
         fewRows = f .fewRows;
-        fits = f .within;
+        fits = subst (λ (l : Layout). rowStart l n m ≤ length bytes) (f .decided) (f .within);
         costsLong = f .costsLong;
         costsRead = f .costsRead;
         within = omega arith;
-        here = omega arith;
+        here = ap (λ (l : Layout). recordStart l n) (f .decided) ∙ omega arith;
         clean = first-laws.first-none isClean Clean refl (rowCheck bytes);
         last = refl;
         byte = λ j e. absurd (omega arith);
@@ -106,8 +110,12 @@ module _ (bytes : List ℕ) (n m : ℕ) (costs : List ℕ) where
 
   module _ (k start before : ℕ) (s : Scanning bytes n m costs k start before) (h : k < m) (row : Row) (is : row ≡ rowFrom bytes start)
       (small : row .semaphore < 256) where
-    here : start ≡ rowStart (taskCount bytes) k
-    here = s .here ∙ ap (λ (t : ℕ). rowStart t k) (s .tasksCounted)
+    here : start ≡ rowStart (layoutOf bytes) (taskCount bytes) k
+    here = s .here ∙ ap (λ (t : ℕ). rowStart (layoutOf bytes) t k) (s .tasksCounted)
+
+    -- the row begins near the start of the bytes
+    pub row-near : start < 65536
+    row-near = omega (arith, s .here, start-small (layoutOf bytes) (s .sound) (s .fewTasks), s .fewRows)
 
     -- what was read is the row of that number
     pub as-row : row ≡ rowAt bytes k
@@ -135,23 +143,24 @@ module _ (bytes : List ℕ) (n m : ℕ) (costs : List ℕ) where
     fault-same =
         ap (λ (r : Row). rowFault r start n costs before) as-row
         ∙ ap (λ (o : ℕ). rowFault (rowAt bytes k) o n costs before) here
-        ∙ row-same n (rowStart (taskCount bytes) k) (rowAt bytes k) (λ inside. s .costsRead (placeIn bytes k) inside) order-test
+        ∙ row-same n (rowStart (layoutOf bytes) (taskCount bytes) k) (rowAt bytes k) (λ inside. s .costsRead (placeIn bytes k) inside) order-test
         ∙ ap
         (λ (t : ℕ).
         fieldsCheck (rowTest t (costIn bytes (placeIn bytes k)) (rowInOrder bytes k (rowAt bytes k)) (rowAt bytes k))
-        (rowRefusal (rowStart (taskCount bytes) k)) rowOrder)
+        (rowRefusal (rowStart (layoutOf bytes) (taskCount bytes) k)) rowOrder)
         (s .tasksCounted)
 
     module _ (checked : Check) (found : checked ≡ rowFault row start n costs before) where
       pub row-wrong : (refusal : Refusal) → checked ≡ Refused refusal → (Refused refusal ≡ rowsCheck bytes) × (rowsRead bytes ≡ k)
       unfolding rowsCheck
       row-wrong refusal e =
-          stops-at (rowCheck bytes) k (s .clean) (rowCount bytes) (omega (arith, s .rowsCounted)) refusal (sym fault-same ∙ sym found ∙ e)
+          stops-at (rowCheck bytes) k (s .clean) (rowCount bytes) (omega (arith, s .rowsCounted)) (Refused refusal) (sym fault-same ∙ sym found ∙ e) refl
 
       pub scanning-more : checked ≡ Clean → (next : ℕ) → next ≡ rowKey row → Scanning bytes n m costs (k + 1) (start + 6) next
       unfolding keyBefore
       scanning-more e next key =
           record {
+            sound = s .sound;
             tasksCounted = s .tasksCounted;
             rowsCounted = s .rowsCounted;
             fewTasks = s .fewTasks;

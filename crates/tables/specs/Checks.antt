@@ -3,25 +3,25 @@
 use Prim.Native.Nat.{ℕ}
 use mathlib.Core.Bool.{Bool}
 use mathlib.Core.List.{List, [], _∷_}
-use lib.Dec.{eqb, leb}
+use lib.Dec.{leb}
 use lib.ListN.{length}
 use Rattle.model.specs.Choice.{both}
 use Rattle.model.specs.Search.{firstOf, cleanCount}
 use Rattle.tables.specs.declared.Refusal.the-variants.{TooShort, UnknownVersion, LengthsDiffer, NoRoom}
 use Rattle.tables.specs.declared.Check.{Check}
 use Rattle.tables.specs.declared.Check.the-variants.{Clean}
-use Rattle.tables.specs.Layout.{headSize, versionOf, taskCount, rowCount, taskAt, rowAt, costIn}
+use Rattle.tables.specs.Layout.{headSize, layoutOf, taskCount, rowCount, taskAt, rowAt, costIn}
 use Rattle.tables.specs.Refusals.{isClean, unless, fieldsCheck, firstIn}
 use Rattle.tables.specs.Fields.{countOrder, countRefusal, recordOrder, refusalInRecord, RowField, rowOrder, refusalInRow}
 use Rattle.tables.specs.Rules.{countTest, lengthsAgree, priorityFits, recordTest, rowInOrder, rowTest}
 
 -- refusal 3
 unfoldable pub countsCheck : List ℕ → Check
-countsCheck bytes = fieldsCheck (countTest (taskCount bytes) (rowCount bytes)) countRefusal countOrder
+countsCheck bytes = fieldsCheck (countTest (layoutOf bytes .most) (taskCount bytes) (rowCount bytes)) countRefusal countOrder
 
 -- "Task records are taken in order, each tested for 5 and then 6"
 unfoldable pub recordCheck : List ℕ → ℕ → Check
-recordCheck bytes i = fieldsCheck (recordTest (taskAt bytes i) (priorityFits bytes i)) (refusalInRecord i) recordOrder
+recordCheck bytes i = fieldsCheck (recordTest (taskAt bytes i) (priorityFits bytes i)) (refusalInRecord (layoutOf bytes) i) recordOrder
 
 -- the tests of row k, with the cost of the task that it names
 abbrev pub rowTests : List ℕ → ℕ → RowField → Bool
@@ -30,13 +30,13 @@ rowTests bytes k =
 
 -- "then the rows in order for 7"
 unfoldable pub rowCheck : List ℕ → ℕ → Check
-rowCheck bytes k = fieldsCheck (rowTests bytes k) (refusalInRow (taskCount bytes) k) rowOrder
+rowCheck bytes k = fieldsCheck (rowTests bytes k) (refusalInRow (layoutOf bytes) (taskCount bytes) k) rowOrder
 
 -- refusals 1 to 4
 abbrev pub headChecks : List ℕ → List Check
 headChecks bytes =
     unless (leb headSize (length bytes)) TooShort
-    ∷ unless (eqb (versionOf bytes) 1) UnknownVersion
+    ∷ unless (layoutOf bytes .known) UnknownVersion
     ∷ countsCheck bytes
     ∷ unless (lengthsAgree bytes) LengthsDiffer
     ∷ []

@@ -5,7 +5,7 @@ use mathlib.Core.Path.{_≡_}
 use mathlib.Core.List.{List, [], _∷_, _++_}
 use Rattle.tables.specs.declared.Refusal.{Refusal}
 use Rattle.tables.specs.declared.Refusal.the-variants.{TooShort, UnknownVersion, CountOutOfRange, LengthsDiffer, NumberOutOfRange, PriorityOutOfOrder, SectionRow, NoRoom, NotPlayable}
-use Rattle.tables.specs.Layout.{taskCount, rowCount}
+use Rattle.tables.specs.Layout.{layoutOf, taskCount, rowCount}
 use Rattle.tables.specs.Fields.{CountField, countOrder, countRefusal, recordOrder, refusalInRecord, rowOrder, refusalInRow}
 use Rattle.tables.specs.Meaning.{LongEnough, VersionKnown, CountRight, CountsRight, LengthsEqual, RecordFieldRight, RowFieldRight, RoomFor, HeadRight, RecordsRight, TableRight}
 
@@ -38,10 +38,10 @@ pub record Fault {F : Type 0} (Right : ℕ → F → Type 0) (order : List F) (r
   pub given : refusal ≡ refusalOf i field
 
 abbrev pub RecordFault : List ℕ → Refusal → Type 0
-RecordFault bytes refusal = Fault (RecordFieldRight bytes) recordOrder refusalInRecord (taskCount bytes) refusal
+RecordFault bytes refusal = Fault (RecordFieldRight bytes) recordOrder (refusalInRecord (layoutOf bytes)) (taskCount bytes) refusal
 
 abbrev pub RowFault : List ℕ → Refusal → Type 0
-RowFault bytes refusal = Fault (RowFieldRight bytes) rowOrder (refusalInRow (taskCount bytes)) (rowCount bytes) refusal
+RowFault bytes refusal = Fault (RowFieldRight bytes) rowOrder (refusalInRow (layoutOf bytes) (taskCount bytes)) (rowCount bytes) refusal
 
 -- When a refusal is deserved: its rule is broken, at its place, and every check before it passes. For 3, 5, 6 and 7 the place is the
 -- first byte of the first field, in the order tested, that breaks its rule.

@@ -1,4 +1,5 @@
--- Places counted by hand: a table that is not refused, and for each field a byte that makes it the first at fault (document 02, L3).
+-- Places counted by hand: for each version a table that is not refused, and for each field a byte that makes it the first at fault
+-- (document 02, L3 and L4).
 -- Assumes nothing.
 use Prim.Native.Nat.{ℕ}
 use mathlib.Core.Path.{_≡_}
@@ -9,12 +10,22 @@ use Rattle.tables.specs.declared.Check.the-variants.{Clean, Refused}
 use Rattle.tables.specs.Refusals.{numberOf, placeOf}
 use Rattle.tables.specs.Checks.{tableCheck}
 
--- two tasks, (9, 5, 9) and (30, 4, 30), and two rows; the second record begins at byte 22, the second row at byte 45
+-- version 1: two tasks, (9, 5, 9) and (30, 4, 30), and two rows; the second record begins at byte 22, the second row at byte 45
 abbrev pub right : List ℕ
 right =
     1 ∷ 0 ∷ 51 ∷ 2 ∷ 2
     ∷ 2 ∷ 0 ∷ 0 ∷ 0 ∷ 9 ∷ 0 ∷ 0 ∷ 0 ∷ 5 ∷ 0 ∷ 0 ∷ 0 ∷ 9 ∷ 0 ∷ 0 ∷ 0 ∷ 0
     ∷ 1 ∷ 0 ∷ 0 ∷ 0 ∷ 30 ∷ 0 ∷ 0 ∷ 0 ∷ 4 ∷ 0 ∷ 0 ∷ 0 ∷ 30 ∷ 0 ∷ 0 ∷ 0 ∷ 0
+    ∷ 0 ∷ 2 ∷ 0 ∷ 0 ∷ 0 ∷ 5
+    ∷ 1 ∷ 1 ∷ 0 ∷ 0 ∷ 0 ∷ 4
+    ∷ []
+
+-- version 2: the same with delays 1 and 1, 2 and 3; the second record begins at byte 26, its delays at 39 and 43, the second row at 53
+abbrev pub rightTwo : List ℕ
+rightTwo =
+    2 ∷ 0 ∷ 59 ∷ 2 ∷ 2
+    ∷ 2 ∷ 0 ∷ 0 ∷ 0 ∷ 9 ∷ 0 ∷ 0 ∷ 0 ∷ 5 ∷ 0 ∷ 0 ∷ 0 ∷ 9 ∷ 0 ∷ 0 ∷ 0 ∷ 1 ∷ 0 ∷ 0 ∷ 0 ∷ 1
+    ∷ 1 ∷ 0 ∷ 0 ∷ 0 ∷ 30 ∷ 0 ∷ 0 ∷ 0 ∷ 4 ∷ 0 ∷ 0 ∷ 0 ∷ 30 ∷ 0 ∷ 0 ∷ 0 ∷ 2 ∷ 0 ∷ 0 ∷ 0 ∷ 3
     ∷ 0 ∷ 2 ∷ 0 ∷ 0 ∷ 0 ∷ 5
     ∷ 1 ∷ 1 ∷ 0 ∷ 0 ∷ 0 ∷ 4
     ∷ []
@@ -45,17 +56,46 @@ changes =
     ∷ change 45 0 7 45
     ∷ []
 
+-- the version; n, m, the length; T, C, D of the second record; its earliest delay out of range, its earliest above its latest, its
+-- latest out of range; its priority; place, semaphore, length of the second row, and its order
+abbrev pub changesTwo : List Change
+changesTwo =
+    change 0 3 2 0
+    ∷ change 3 33 3 3
+    ∷ change 4 65 3 4
+    ∷ change 2 58 4 0
+    ∷ change 30 0 5 27
+    ∷ change 34 0 5 31
+    ∷ change 38 31 5 35
+    ∷ change 39 1 5 39
+    ∷ change 42 4 5 43
+    ∷ change 43 1 5 43
+    ∷ change 26 2 6 26
+    ∷ change 53 2 7 53
+    ∷ change 54 17 7 54
+    ∷ change 58 5 7 55
+    ∷ change 53 0 7 53
+    ∷ []
+
 -- the number and the place that are told, and nothing where the table is clean
 abbrev pub told : Check → List ℕ
 told Clean = []
 told (Refused refusal) = numberOf refusal ∷ placeOf refusal ∷ []
 
-abbrev pub toldOf : Change → List ℕ
-toldOf c = told (tableCheck (set right (c .byte) (c .value)) 2 2)
+abbrev pub toldOf : List ℕ → Change → List ℕ
+toldOf table c = told (tableCheck (set table (c .byte) (c .value)) 2 2)
 
 abbrev pub wantedOf : Change → List ℕ
 wantedOf c = c .number ∷ c .place ∷ []
 
+-- T and the priority of the second record both at fault
+abbrev pub twice : List ℕ
+twice = set (set right 26 0) 22 2
+
 pub record PlacesDrawn : Type 0 where
   pub clean : tableCheck right 2 2 ≡ Clean
-  pub places : map toldOf changes ≡ map wantedOf changes
+  pub places : map (toldOf right) changes ≡ map wantedOf changes
+  -- "taken as T, C, D, J, priority": the earlier of the two is told
+  pub twoFaults : told (tableCheck twice 2 2) ≡ 5 ∷ 23 ∷ []
+  pub cleanTwo : tableCheck rightTwo 2 2 ≡ Clean
+  pub placesTwo : map (toldOf rightTwo) changesTwo ≡ map wantedOf changesTwo

@@ -1,10 +1,12 @@
--- The fields that have a rule, in the order in which they are tested, and the refusal of each, at its first byte (document 02, L3).
+-- The fields that have a rule, in the order in which they are tested, and the refusal of each, at its first byte (document 02, L3
+-- and L4).
 -- Assumes nothing.
 use Prim.Native.Nat.{ℕ, _+_}
 use mathlib.Core.List.{List, [], _∷_}
+use Rattle.tables.specs.declared.layout.Layout.{Layout}
 use Rattle.tables.specs.declared.Refusal.{Refusal}
 use Rattle.tables.specs.declared.Refusal.the-variants.{CountOutOfRange, NumberOutOfRange, PriorityOutOfOrder, SectionRow}
-use Rattle.tables.specs.Layout.{recordStart, rowStart, taskCountAt, rowCountAt, priorityAt, periodAt, costAt, deadlineAt, jitterAt, placeAt, semaphoreAt, longestAt}
+use Rattle.tables.specs.Layout.{recordStart, rowStart, taskCountAt, rowCountAt, priorityAt, periodAt, costAt, deadlineAt, earliestAt, latestAt, placeAt, semaphoreAt, longestAt}
 use Rattle.tables.specs.Refusals.{offset}
 
 pub data CountField : Type 0 where
@@ -15,7 +17,8 @@ pub data RecordField : Type 0 where
   periodField : RecordField
   costField : RecordField
   deadlineField : RecordField
-  jitterField : RecordField
+  earliestField : RecordField
+  latestField : RecordField
   priorityField : RecordField
 
 -- the last is no field of its own: it is the row's order
@@ -33,20 +36,22 @@ abbrev pub countRefusal : CountField → Refusal
 countRefusal taskCountField = CountOutOfRange (offset taskCountAt)
 countRefusal rowCountField = CountOutOfRange (offset rowCountAt)
 
--- "the first faulty field, taken as T, C, D, J, priority"
+-- "the first faulty field, taken as T, C, D, J, priority", and "a faulty delay points at the earliest if that is out of range, else at
+-- the latest". J is the latest; where a layout has no earliest, that is 0, and no fault.
 abbrev pub recordOrder : List RecordField
-recordOrder = periodField ∷ costField ∷ deadlineField ∷ jitterField ∷ priorityField ∷ []
+recordOrder = periodField ∷ costField ∷ deadlineField ∷ earliestField ∷ latestField ∷ priorityField ∷ []
 
 -- 5 for a number and 6 for the priority, in the record that begins at `start`
-abbrev pub recordRefusal : ℕ → RecordField → Refusal
-recordRefusal start periodField = NumberOutOfRange (offset (start + periodAt))
-recordRefusal start costField = NumberOutOfRange (offset (start + costAt))
-recordRefusal start deadlineField = NumberOutOfRange (offset (start + deadlineAt))
-recordRefusal start jitterField = NumberOutOfRange (offset (start + jitterAt))
-recordRefusal start priorityField = PriorityOutOfOrder (offset (start + priorityAt))
+abbrev pub recordRefusal : Layout → ℕ → RecordField → Refusal
+recordRefusal layout start periodField = NumberOutOfRange (offset (start + periodAt))
+recordRefusal layout start costField = NumberOutOfRange (offset (start + costAt))
+recordRefusal layout start deadlineField = NumberOutOfRange (offset (start + deadlineAt))
+recordRefusal layout start earliestField = NumberOutOfRange (offset (start + earliestAt))
+recordRefusal layout start latestField = NumberOutOfRange (offset (start + latestAt (layout .delays)))
+recordRefusal layout start priorityField = PriorityOutOfOrder (offset (start + priorityAt))
 
-abbrev pub refusalInRecord : ℕ → RecordField → Refusal
-refusalInRecord i = recordRefusal (recordStart i)
+abbrev pub refusalInRecord : Layout → ℕ → RecordField → Refusal
+refusalInRecord layout i = recordRefusal layout (recordStart layout i)
 
 -- "in a row place, semaphore, length, then row order (at the row's first byte)"
 abbrev pub rowOrder : List RowField
@@ -63,5 +68,5 @@ rowRefusal start longestField = SectionRow (offset (start + longestAt))
 rowRefusal start orderField = SectionRow (offset (start + orderAt))
 
 -- in row k, behind n records
-abbrev pub refusalInRow : ℕ → ℕ → RowField → Refusal
-refusalInRow n k = rowRefusal (rowStart n k)
+abbrev pub refusalInRow : Layout → ℕ → ℕ → RowField → Refusal
+refusalInRow layout n k = rowRefusal (rowStart layout n k)

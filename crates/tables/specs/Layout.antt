@@ -1,10 +1,17 @@
--- House form, version 1: which bytes hold which field, and the table that the bytes mean (document 01, "The table's bytes").
+-- House form, versions 1 and 2: which bytes hold which field, and the table that the bytes mean (document 01, "The table's bytes";
+-- document 02, L4).
 -- Assumes nothing.
 use Prim.Native.Nat.{ℕ, _+_, _*_}
+use mathlib.Core.Bool.{true, false}
 use mathlib.Core.List.{List}
+use lib.Dec.{eqb}
 use lib.ListN.{getD}
+use Rattle.model.specs.Choice.{pick}
 use Rattle.model.specs.Lists.{tabulate}
-use Rattle.model.specs.Tables.{Task, Row, Table}
+use Rattle.model.specs.Tables.{Task, Row, Table, spreadOf}
+use Rattle.tables.specs.declared.layout.DelayFields.{DelayFields}
+use Rattle.tables.specs.declared.layout.DelayFields.the-variants.{Jitter, Pair}
+use Rattle.tables.specs.declared.layout.Layout.{Layout}
 
 -- "All numbers are unsigned and big-endian."
 abbrev pub byteAt : List ℕ → ℕ → ℕ
@@ -17,12 +24,9 @@ abbrev pub wordAt : List ℕ → ℕ → ℕ
 wordAt bytes at =
     byteAt bytes at * 16777216 + byteAt bytes (at + 1) * 65536 + byteAt bytes (at + 2) * 256 + byteAt bytes (at + 3)
 
--- the bytes before the first record, of one task record, and of one section row
+-- the bytes before the first record, and of one section row
 abbrev pub headSize : ℕ
 headSize = 5
-
-abbrev pub recordSize : ℕ
-recordSize = 17
 
 abbrev pub rowSize : ℕ
 rowSize = 6
@@ -47,18 +51,38 @@ taskCount bytes = byteAt bytes taskCountAt
 abbrev pub rowCount : List ℕ → ℕ
 rowCount bytes = byteAt bytes rowCountAt
 
--- "The length is 5 + 17n + 6m"
-abbrev pub lengthFor : ℕ → ℕ → ℕ
-lengthFor n m = headSize + recordSize * n + rowSize * m
+-- What the version decides: the size of a task record, the greatest number of tasks, and which delays a record has.
+-- "n × 17": J alone
+abbrev pub versionOne : Layout
+versionOne = record { known = true; size = 17; most = 32; delays = Jitter }
+
+-- "Version 2 has 21-byte records: earliest and latest delay in place of J"
+abbrev pub versionTwo : Layout
+versionTwo = record { known = true; size = 21; most = 32; delays = Pair }
+
+-- any other version is not known, and has no record
+abbrev pub noVersion : Layout
+noVersion = record { known = false; size = 0; most = 0; delays = Jitter }
+
+unfoldable pub layoutFor : ℕ → Layout
+layoutFor version = pick (eqb version 1) versionOne (pick (eqb version 2) versionTwo noVersion)
+
+abbrev pub layoutOf : List ℕ → Layout
+layoutOf bytes = layoutFor (versionOf bytes)
+
+-- "The length is 5 + 17n + 6m", "5 + 21n + 6m"
+abbrev pub lengthFor : Layout → ℕ → ℕ → ℕ
+lengthFor layout n m = headSize + layout .size * n + rowSize * m
 
 -- where record i and, after n records, row k begin
-abbrev pub recordStart : ℕ → ℕ
-recordStart i = headSize + recordSize * i
+abbrev pub recordStart : Layout → ℕ → ℕ
+recordStart layout i = headSize + layout .size * i
 
-abbrev pub rowStart : ℕ → ℕ → ℕ
-rowStart n k = recordStart n + rowSize * k
+abbrev pub rowStart : Layout → ℕ → ℕ → ℕ
+rowStart layout n k = recordStart layout n + rowSize * k
 
--- "priority (1 byte), period T, cost C, deadline D, jitter J (4 bytes each)": where each begins in its record
+-- "priority (1 byte), period T, cost C, deadline D, jitter J (4 bytes each)", "earliest and latest delay in place of J": where each
+-- begins in its record
 abbrev pub priorityAt : ℕ
 priorityAt = 0
 
@@ -74,18 +98,32 @@ deadlineAt = 9
 abbrev pub jitterAt : ℕ
 jitterAt = 13
 
-abbrev pub recordFrom : List ℕ → ℕ → Task
-recordFrom bytes at =
+abbrev pub earliestAt : ℕ
+earliestAt = 13
+
+-- J is the latest delay
+abbrev pub latestAt : DelayFields → ℕ
+latestAt Jitter = jitterAt
+latestAt Pair = 17
+
+-- "Version 1 tables read with earliest 0"
+abbrev pub earliestFrom : DelayFields → List ℕ → ℕ → ℕ
+earliestFrom Jitter bytes at = 0
+earliestFrom Pair bytes at = wordAt bytes (at + earliestAt)
+
+abbrev pub recordFrom : Layout → List ℕ → ℕ → Task
+recordFrom layout bytes at =
     record {
       priority = byteAt bytes (at + priorityAt);
       period = wordAt bytes (at + periodAt);
       cost = wordAt bytes (at + costAt);
       deadline = wordAt bytes (at + deadlineAt);
-      jitter = wordAt bytes (at + jitterAt);
+      earliest = earliestFrom (layout .delays) bytes at;
+      latest = wordAt bytes (at + latestAt (layout .delays));
     }
 
 abbrev pub taskAt : List ℕ → ℕ → Task
-taskAt bytes i = recordFrom bytes (recordStart i)
+taskAt bytes i = recordFrom (layoutOf bytes) bytes (recordStart (layoutOf bytes) i)
 
 -- "task place (1), semaphore (1), longest section (4)": where each begins in its row
 abbrev pub placeAt : ℕ
@@ -103,7 +141,7 @@ rowFrom bytes at =
     { place = byteAt bytes (at + placeAt); semaphore = byteAt bytes (at + semaphoreAt); longest = wordAt bytes (at + longestAt) }
 
 abbrev pub rowAt : List ℕ → ℕ → Row
-rowAt bytes k = rowFrom bytes (rowStart (taskCount bytes) k)
+rowAt bytes k = rowFrom bytes (rowStart (layoutOf bytes) (taskCount bytes) k)
 
 -- what the bytes mean, once they are accepted
 abbrev pub tasksOf : List ℕ → List Task
@@ -128,8 +166,14 @@ costIn bytes i = taskAt bytes i .cost
 abbrev pub deadlineIn : List ℕ → ℕ → ℕ
 deadlineIn bytes i = taskAt bytes i .deadline
 
-abbrev pub jitterIn : List ℕ → ℕ → ℕ
-jitterIn bytes i = taskAt bytes i .jitter
+abbrev pub earliestIn : List ℕ → ℕ → ℕ
+earliestIn bytes i = taskAt bytes i .earliest
+
+abbrev pub latestIn : List ℕ → ℕ → ℕ
+latestIn bytes i = taskAt bytes i .latest
+
+abbrev pub spreadIn : List ℕ → ℕ → ℕ
+spreadIn bytes i = spreadOf (taskAt bytes i)
 
 -- one field of each row, by its number
 abbrev pub placeIn : List ℕ → ℕ → ℕ

@@ -1,38 +1,39 @@
--- The rules of document 01 without any test, field by field.
+-- The rules of document 01, and of document 02's L4, without any test, field by field.
 -- Assumes nothing.
 use Prim.Native.Nat.{ℕ, suc, _≤_, _<_}
 use mathlib.Core.Path.{_≡_}
+use mathlib.Core.Logic.{_⊎_}
 use mathlib.Core.List.{List}
 use lib.ListN.{length}
 use Rattle.model.specs.Tables.{Row}
-use Rattle.tables.specs.Fields.{CountField, taskCountField, rowCountField, RecordField, periodField, costField, deadlineField, jitterField, priorityField, RowField, placeField, semaphoreField, longestField, orderField}
-use Rattle.tables.specs.Layout.{versionOf, statedLength, taskCount, rowCount, lengthFor, rowAt, priorityIn, periodIn, costIn, deadlineIn, jitterIn}
+use Rattle.tables.specs.Fields.{CountField, taskCountField, rowCountField, RecordField, periodField, costField, deadlineField, earliestField, latestField, priorityField, RowField, placeField, semaphoreField, longestField, orderField}
+use Rattle.tables.specs.Layout.{versionOf, layoutOf, statedLength, taskCount, rowCount, lengthFor, rowAt, priorityIn, periodIn, costIn, deadlineIn, earliestIn, latestIn}
 
 -- 1: "fewer than 5 bytes"
 abbrev pub LongEnough : List ℕ → Type 0
 LongEnough bytes = 5 ≤ length bytes
 
--- 2: "byte 0 isn't 1"
+-- 2: "byte 0 isn't 1", nor 2 (document 02, L4)
 abbrev pub VersionKnown : List ℕ → Type 0
-VersionKnown bytes = versionOf bytes ≡ 1
+VersionKnown bytes = (versionOf bytes ≡ 1) ⊎ (versionOf bytes ≡ 2)
 
 -- a number in its range, both ends allowed
 pub record Within (lowest highest number : ℕ) : Type 0 where
   pub low : lowest ≤ number
   pub high : number ≤ highest
 
--- 3: "n, number of tasks, 1 to 32", "m, number of section rows, 0 to 64"
+-- 3: "n, number of tasks, 1 to 32" (what the version allows at most), "m, number of section rows, 0 to 64"
 abbrev pub CountRight : List ℕ → CountField → Type 0
-CountRight bytes taskCountField = Within 1 32 (taskCount bytes)
+CountRight bytes taskCountField = Within 1 (layoutOf bytes .most) (taskCount bytes)
 CountRight bytes rowCountField = Within 0 64 (rowCount bytes)
 
 abbrev pub CountsRight : List ℕ → Type 0
 CountsRight bytes = (field : CountField) → CountRight bytes field
 
--- 4: "stated length, lent length and 5 + 17n + 6m not all equal"
+-- 4: "stated length, lent length and 5 + 17n + 6m not all equal" (or 5 + 21n + 6m)
 pub record LengthsEqual (bytes : List ℕ) : Type 0 where
   pub stated : statedLength bytes ≡ length bytes
-  pub summed : lengthFor (taskCount bytes) (rowCount bytes) ≡ length bytes
+  pub summed : lengthFor (layoutOf bytes) (taskCount bytes) (rowCount bytes) ≡ length bytes
 
 -- 6: "Priorities are 1 to 255 and strictly fall from each record to the next." (A byte is at most 255.)
 pub record PriorityInOrder (bytes : List ℕ) (i : ℕ) : Type 0 where
@@ -44,12 +45,13 @@ pub record RowsRise (before row : Row) : Type 0 where
   pub byPlace : before .place ≤ row .place
   pub thenSemaphore : before .place ≡ row .place → before .semaphore < row .semaphore
 
--- 5: "T and C are 1 to 1,000,000. D is 1 to T. J is 0 to 1,000,000.", and 6
+-- 5: "T and C are 1 to 1,000,000. D is 1 to T. J is 0 to 1,000,000."; "earliest at most latest, both at most 1,000,000"; and 6
 abbrev pub RecordFieldRight : List ℕ → ℕ → RecordField → Type 0
 RecordFieldRight bytes i periodField = Within 1 1000000 (periodIn bytes i)
 RecordFieldRight bytes i costField = Within 1 1000000 (costIn bytes i)
 RecordFieldRight bytes i deadlineField = Within 1 (periodIn bytes i) (deadlineIn bytes i)
-RecordFieldRight bytes i jitterField = Within 0 1000000 (jitterIn bytes i)
+RecordFieldRight bytes i earliestField = Within 0 1000000 (earliestIn bytes i)
+RecordFieldRight bytes i latestField = Within (earliestIn bytes i) 1000000 (latestIn bytes i)
 RecordFieldRight bytes i priorityField = PriorityInOrder bytes i
 
 abbrev pub RecordRight : List ℕ → ℕ → Type 0

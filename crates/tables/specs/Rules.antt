@@ -7,34 +7,36 @@ use lib.Dec.{eqb, leb, ltb}
 use lib.ListN.{length}
 use Rattle.model.specs.Choice.{both, either}
 use Rattle.model.specs.Tables.{Task, Row}
-use Rattle.tables.specs.Fields.{CountField, taskCountField, rowCountField, RecordField, periodField, costField, deadlineField, jitterField, priorityField, RowField, placeField, semaphoreField, longestField, orderField}
-use Rattle.tables.specs.Layout.{statedLength, taskCount, rowCount, lengthFor, taskAt, rowAt}
+use Rattle.tables.specs.Fields.{CountField, taskCountField, rowCountField, RecordField, periodField, costField, deadlineField, earliestField, latestField, priorityField, RowField, placeField, semaphoreField, longestField, orderField}
+use Rattle.tables.specs.Layout.{layoutOf, statedLength, taskCount, rowCount, lengthFor, taskAt, rowAt}
 
 -- is x between low and high, both allowed?
 abbrev pub between : ℕ → ℕ → ℕ → Bool
 between low high x = both (leb low x) (leb x high)
 
--- "n, number of tasks, 1 to 32", "m, number of section rows, 0 to 64"
-unfoldable pub countTest : ℕ → ℕ → CountField → Bool
-countTest n m taskCountField = between 1 32 n
-countTest n m rowCountField = between 0 64 m
+-- "n, number of tasks, 1 to 32" (what the version allows at most), "m, number of section rows, 0 to 64"
+unfoldable pub countTest : ℕ → ℕ → ℕ → CountField → Bool
+countTest most n m taskCountField = between 1 most n
+countTest most n m rowCountField = between 0 64 m
 
--- "stated length, lent length and 5 + 17n + 6m .. all equal"
+-- "stated length, lent length and 5 + 17n + 6m .. all equal" (or 5 + 21n + 6m)
 unfoldable pub lengthsAgree : List ℕ → Bool
 lengthsAgree bytes =
-    both (eqb (statedLength bytes) (length bytes)) (eqb (lengthFor (taskCount bytes) (rowCount bytes)) (length bytes))
+    both (eqb (statedLength bytes) (length bytes))
+    (eqb (lengthFor (layoutOf bytes) (taskCount bytes) (rowCount bytes)) (length bytes))
 
 -- "Priorities are 1 to 255 and strictly fall from each record to the next."
 unfoldable pub priorityFits : List ℕ → ℕ → Bool
 priorityFits bytes i =
     both (leb 1 (taskAt bytes i .priority)) (either (eqb i 0) (ltb (taskAt bytes i .priority) (taskAt bytes (i - 1) .priority)))
 
--- "T and C are 1 to 1,000,000. D is 1 to T. J is 0 to 1,000,000.", and the priority, whose test needs the record before
+-- "T and C are 1 to 1,000,000. D is 1 to T. J is 0 to 1,000,000."; "earliest at most latest, both at most 1,000,000"; and the priority, whose test needs the record before
 unfoldable pub recordTest : Task → Bool → RecordField → Bool
 recordTest t inOrder periodField = between 1 1000000 (t .period)
 recordTest t inOrder costField = between 1 1000000 (t .cost)
 recordTest t inOrder deadlineField = between 1 (t .period) (t .deadline)
-recordTest t inOrder jitterField = between 0 1000000 (t .jitter)
+recordTest t inOrder earliestField = between 0 1000000 (t .earliest)
+recordTest t inOrder latestField = between (t .earliest) 1000000 (t .latest)
 recordTest t inOrder priorityField = inOrder
 
 -- "Rows strictly rise by place, then semaphore."

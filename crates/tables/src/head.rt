@@ -4,16 +4,16 @@ ghost use Rattle.tables.specs.Checks.{headCheck};
 use crate::Check;
 use crate::HEAD_SIZE;
 use crate::MOST_ROWS;
-use crate::MOST_TASKS;
 use crate::Offset;
-use crate::RECORD_SIZE;
 use crate::ROW_COUNT_AT;
 use crate::ROW_SIZE;
 use crate::Refusal;
 use crate::TASK_COUNT_AT;
+use crate::VERSION_AT;
 use crate::fields::count;
 use crate::fields::half;
 use crate::fields::within;
+use crate::layout;
 
 pub fn check(table: &[u8]) -> Check
     ensures { λ r. ⌜ r ≡ headCheck (now (table .entry)) ⌝ }
@@ -21,12 +21,13 @@ pub fn check(table: &[u8]) -> Check
     if table.len() < HEAD_SIZE {
         return Check::Refused(Refusal::TooShort);
     }
-    if table[0] != 1 {
+    let layout = layout::of(table[VERSION_AT]);
+    if !layout.known {
         return Check::Refused(Refusal::UnknownVersion);
     }
     let n = count(table[TASK_COUNT_AT]);
     let m = count(table[ROW_COUNT_AT]);
-    if !within(1, MOST_TASKS, n as u32) {
+    if !within(1, layout.most, n as u32) {
         return Check::Refused(Refusal::CountOutOfRange(Offset(TASK_COUNT_AT)));
     }
     if !within(0, MOST_ROWS, m as u32) {
@@ -35,7 +36,7 @@ pub fn check(table: &[u8]) -> Check
     if half(table, 1) as usize != table.len() {
         return Check::Refused(Refusal::LengthsDiffer);
     }
-    if HEAD_SIZE + RECORD_SIZE * n + ROW_SIZE * m != table.len() {
+    if HEAD_SIZE + layout.size * n + ROW_SIZE * m != table.len() {
         return Check::Refused(Refusal::LengthsDiffer);
     }
     Check::Clean

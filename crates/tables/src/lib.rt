@@ -1,20 +1,22 @@
-// House form, version 1: where each field stands, the refusals in their order, and the table that accepted bytes mean.
+// House form, versions 1 and 2: where each field stands, the refusals in their order, and the table that accepted bytes mean.
 ghost use mathlib.Core.Path.{_≡_};
-ghost use Rattle.tables.specs.Refusals.{numberOf, placeOf};
+ghost use Rattle.tables.specs.Refusals.{numberOf, placeOf, isClean};
 
 pub mod fields;
 pub mod head;
+pub mod layout;
 pub mod records;
 pub mod rows;
 
-// Sizes in bytes: what stands before the first record, a task record, a section row.
+// Sizes in bytes: what stands before the first record, and a section row. A record's size is its layout's.
 pub const HEAD_SIZE: usize = 5;
-
-pub const RECORD_SIZE: usize = 17;
 
 pub const ROW_SIZE: usize = 6;
 
-// Where fields begin: the two counts in the table, a task's numbers in its record, a section's in its row.
+// Where fields begin: the version and the two counts in the table, a task's numbers in its record, a section's in its row. The layout
+// says whether J stands in a record, or the two delays.
+pub const VERSION_AT: usize = 0;
+
 pub const TASK_COUNT_AT: usize = 3;
 
 pub const ROW_COUNT_AT: usize = 4;
@@ -29,6 +31,10 @@ pub const DEADLINE_AT: usize = 9;
 
 pub const JITTER_AT: usize = 13;
 
+pub const EARLIEST_AT: usize = 13;
+
+pub const LATEST_AT: usize = 17;
+
 pub const PLACE_AT: usize = 0;
 
 pub const SEMAPHORE_AT: usize = 1;
@@ -38,9 +44,7 @@ pub const LONGEST_AT: usize = 2;
 // A row out of order is told at its first byte (document 02, L3).
 pub const ORDER_AT: usize = 0;
 
-// Limits: the numbers of tasks and rows, a period or a cost, a semaphore.
-pub const MOST_TASKS: u32 = 32;
-
+// Limits: the number of rows, a period, a cost or a delay, a semaphore.
 pub const MOST_ROWS: u32 = 64;
 
 pub const MOST_TICKS: u32 = 1000000;
@@ -68,6 +72,16 @@ pub enum Refusal {
 pub enum Check {
     Clean,
     Refused(Refusal),
+}
+
+// Was nothing found?
+pub fn is_clean(check: Check) -> bool
+    ensures { λ r. ⌜ r ≡ isClean check ⌝ }
+{
+    match check {
+        Check::Clean => true,
+        Check::Refused(_) => false,
+    }
 }
 
 // The refusal's number in document 01.

@@ -13,7 +13,6 @@ use crate::MOST_SEMAPHORE;
 use crate::ORDER_AT;
 use crate::Offset;
 use crate::PLACE_AT;
-use crate::RECORD_SIZE;
 use crate::ROW_SIZE;
 use crate::Refusal;
 use crate::SEMAPHORE_AT;
@@ -21,6 +20,7 @@ use crate::fields::count;
 use crate::fields::wide;
 use crate::fields::within;
 use crate::fields::word;
+use crate::layout::Layout;
 use model::Place;
 use model::Ticks;
 
@@ -79,6 +79,7 @@ fn check(row: RowRecord, at: usize, n: usize, costs: &[u32], before: u32) -> Che
 // Takes the m rows in order, and keeps the fields of those before the first fault.
 pub fn read_all(
     table: &[u8],
+    layout: Layout,
     n: usize,
     m: usize,
     costs: &[u32],
@@ -86,7 +87,7 @@ pub fn read_all(
     semaphores: &mut [u8],
     longest: &mut [u32],
 ) -> Check
-    requires { ⌜ RowsFit (now table) n m (now costs) (now places) (now semaphores) (now longest) ⌝ }
+    requires { ⌜ RowsFit (now table) layout n m (now costs) (now places) (now semaphores) (now longest) ⌝ }
     ensures { λ r. ⌜ r ≡ rowsCheck (now (table .entry)) ⌝ }
     ensures { λ r. ⌜ now (places .exit) ≡ filled (placeIn (now (table .entry))) (rowsRead (now (table .entry))) (now (places .entry)) ⌝ }
     ensures { λ r. ⌜ now (semaphores .exit) ≡ filled (semaphoreIn (now (table .entry))) (rowsRead (now (table .entry))) (now (semaphores .entry)) ⌝ }
@@ -94,7 +95,7 @@ pub fn read_all(
 {
     // below every key: no row stands before the first
     let mut before: u32 = 0;
-    let mut at = HEAD_SIZE + RECORD_SIZE * n;
+    let mut at = HEAD_SIZE + layout.size * n;
     for k in 0..m {
         let row = read(table, at);
         let checked = check(row, at, n, costs, before);

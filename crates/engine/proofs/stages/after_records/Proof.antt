@@ -8,7 +8,7 @@ use Rattle.engine.proofs.stages.after_records.Statement.{statement}
 use Rattle.engine.proofs.stages.after_records.Tie as tie
 
 shared-slice-read-count : tie.Need-shared-slice-read-count
-shared-slice-read-count c = omega (arith, long-enough _ (c .before .before .before .before .before .before .before .pre .read .head))
+shared-slice-read-count c = omega (arith, long-enough _ (c .before .before .before .before .before .before .before .pre .1 .read .head))
 
 count-requires : tie.Need-count-requires
 count-requires c κs = search needs
@@ -24,8 +24,8 @@ returns c = search needs
 
 with-rows-requires : tie.Need-with-rows-requires
 with-rows-requires c κs =
-    let p = c .before .before .before .before .before .before .before .before .before .pre in
-    (p .read, (p .costsHeld, (c .before .count .ensures .0, omega (arith, c .if1 .left))))
+    let p = c .before .before .before .before .before .before .before .before .before .pre .1 in
+    (c .before .before .before .before .before .before .before .before .before .pre .0, (p .read, (p .costsHeld, (c .before .count .ensures .0, omega (arith, c .if1 .left)))))
 
 returns-2 : tie.Need-returns-2
 returns-2 c = refused _ _ _ (c .with-rows .ensures)

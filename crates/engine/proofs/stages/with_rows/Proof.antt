@@ -18,23 +18,23 @@ slice-aggregate-read-all-3 c = search needs
 
 read-all-requires : tie.Need-read-all-requires
 read-all-requires c κs =
-    let p = c .before .before .before .before .before .pre in
-    rows-fit _ (p .0 .head) _ (p .0 .counted) _ (p .1 .1 .0) _ _ _ refl refl refl _ (p .1 .0)
+    let p = c .before .before .before .before .before .pre .1 in
+    rows-fit _ (p .0 .head) _ (c .before .before .before .before .before .pre .0) _ (p .0 .counted) _ (p .1 .1 .0) _ _ _ refl refl refl _ (p .1 .0)
 
 enum-told : tie.Need-enum-told
 enum-told c = search needs
 
 returns : tie.Need-returns
-returns c = too-short _ _ _ (c .before .before .before .before .before .before .before .before .before .before .before .before .pre .0) (sym (c .before .before .before .before .before .before .read-all .ensures .0) ∙ c .before .enum-told .given .1) (c .if1 .taken)
+returns c = too-short _ _ _ (c .before .before .before .before .before .before .before .before .before .before .before .before .pre .1 .0) (sym (c .before .before .before .before .before .before .read-all .ensures .0) ∙ c .before .enum-told .given .1) (c .if1 .taken)
 
 enum-known-checked : tie.Need-enum-known-checked
 enum-known-checked c = search needs
 
 returns-2 : tie.Need-returns-2
-returns-2 c = has-rows _ _ _ (c .before .before .before .before .before .before .before .before .before .before .before .before .pre .0) (sym (c .before .before .before .before .before .before .read-all .ensures .0) ∙ c .before .enum-told .given .1) _ (c .if1 .left) (c .before .before .before .before .before .before .before .before .before .before .before .before .pre .1 .1)
+returns-2 c = has-rows _ _ _ (c .before .before .before .before .before .before .before .before .before .before .before .before .pre .1 .0) (sym (c .before .before .before .before .before .before .read-all .ensures .0) ∙ c .before .enum-told .given .1) _ (c .if1 .left) (c .before .before .before .before .before .before .before .before .before .before .before .before .pre .1 .1 .1)
 
 returns-3 : tie.Need-returns-3
-returns-3 c = rows-wrong _ _ _ (c .before .before .before .before .before .before .before .before .before .before .before .before .pre .0) _ (sym (c .before .checked .given .1) ∙ c .before .before .before .before .before .before .read-all .ensures .0)
+returns-3 c = rows-wrong _ _ _ (c .before .before .before .before .before .before .before .before .before .before .before .before .pre .1 .0) _ (sym (c .before .checked .given .1) ∙ c .before .before .before .before .before .before .read-all .ensures .0)
 
 pub with-rows-spec : {M : Type 1} → statement M
 with-rows-spec =

@@ -2,7 +2,6 @@
 -- Assumes nothing.
 use Prim.Native.Nat.{_-_}
 use native.Mathlib.Omega.{arith}
-use mathlib.Core.Path.{_≡_}
 use Rattle.model.proofs.Filling.{Filling, filling-none, filling-more, filling-at}
 use Rattle.response.specs.Slices.{decoded, answerIn, roundsIn}
 use Rattle.response.proofs.AnsweringLaws.{Answering, answering-none, answering-more, answering-all, base-fits, loads-fit, solvable, response-is, rounds-are}
@@ -10,45 +9,45 @@ use Rattle.response.proofs.answering.answer_all.Statement.{statement}
 use Rattle.response.proofs.answering.answer_all.Tie as tie
 
 abbrev Inv-loop : tie.InvT-loop
-Inv-loop priorities periods costs deadlines jitters n owners tops longest m answers₀ rounds₀ verdict₀ i₀ answers rounds verdict i =
-    Answering (decoded priorities periods costs deadlines jitters owners tops longest m) n i verdict
-    × Filling (answerIn (decoded priorities periods costs deadlines jitters owners tops longest m)) n i answers₀ answers
-    × Filling (roundsIn (decoded priorities periods costs deadlines jitters owners tops longest m)) n i rounds₀ rounds
+Inv-loop priorities periods costs deadlines spreads latest n owners tops longest m answers₀ rounds₀ verdict₀ i₀ answers rounds verdict i =
+    Answering (decoded priorities periods costs deadlines spreads latest owners tops longest m) n i verdict
+    × Filling (answerIn (decoded priorities periods costs deadlines spreads latest owners tops longest m)) n i answers₀ answers
+    × Filling (roundsIn (decoded priorities periods costs deadlines spreads latest owners tops longest m)) n i rounds₀ rounds
 
 abbrev μ-loop : tie.MeasureT-loop
-μ-loop priorities periods costs deadlines jitters n owners tops longest m answers₀ rounds₀ verdict₀ i₀ answers rounds verdict i = n - i
+μ-loop priorities periods costs deadlines spreads latest n owners tops longest m answers₀ rounds₀ verdict₀ i₀ answers rounds verdict i = n - i
 
 loop-holds : tie.Need-loop-holds Inv-loop μ-loop
-loop-holds c = (answering-none _ _ (c .before .before .before .before .before .before .before .before .before .before .pre .0), filling-none _ _ _ (c .before .before .before .before .before .before .before .before .before .before .pre .1 .0), filling-none _ _ _ (c .before .before .before .before .before .before .before .before .before .before .pre .1 .1))
+loop-holds c = (answering-none _ _ (c .before .before .before .before .before .before .before .before .before .before .before .pre .0), filling-none _ _ _ (c .before .before .before .before .before .before .before .before .before .before .before .pre .1 .0), filling-none _ _ _ (c .before .before .before .before .before .before .before .before .before .before .before .pre .1 .1))
 
-shared-slice-read-t20 : tie.Need-shared-slice-read-t20 Inv-loop μ-loop
-shared-slice-read-t20 c = omega (arith, c .before .before .loop .inv .0 .fits .prioritiesLong, c .before .loop-test .taken)
+shared-slice-read-t21 : tie.Need-shared-slice-read-t21 Inv-loop μ-loop
+shared-slice-read-t21 c = omega (arith, c .before .before .loop .inv .0 .fits .prioritiesLong, c .before .loop-test .taken)
 
 blocking-requires : tie.Need-blocking-requires Inv-loop μ-loop
 blocking-requires c κs =
     let f = c .before .before .loop .inv .0 .fits in
     ((f .ownersLong, f .topsLong), f .longestLong)
 
-mul-t22 : tie.Need-mul-t22 Inv-loop μ-loop
-mul-t22 c = omega arith
-
-shared-slice-read-t24 : tie.Need-shared-slice-read-t24 Inv-loop μ-loop
-shared-slice-read-t24 c = omega (arith, c .before .before .before .before .loop .inv .0 .fits .loadsFit .costsLong, c .before .before .before .loop-test .taken)
-
-add-t25 : tie.Need-add-t25 Inv-loop μ-loop
-add-t25 c = omega (arith, base-fits _ _ _ _ (c .before .before .before .before .before .loop .inv .0 .fits) (c .before .before .before .before .loop-test .taken) (c .before .before .blocking .ensures))
-
-mul-t22-2 : tie.Need-mul-t22-2 Inv-loop μ-loop
-mul-t22-2 c = omega arith
+mul-t23 : tie.Need-mul-t23 Inv-loop μ-loop
+mul-t23 c = omega arith
 
 shared-slice-read-t25 : tie.Need-shared-slice-read-t25 Inv-loop μ-loop
-shared-slice-read-t25 c = omega (arith, c .before .before .before .before .before .before .loop .inv .0 .fits .loadsFit .spreadsLong, c .before .before .before .before .before .loop-test .taken)
+shared-slice-read-t25 c = omega (arith, c .before .before .before .before .loop .inv .0 .fits .loadsFit .costsLong, c .before .before .before .loop-test .taken)
 
-mul-t28 : tie.Need-mul-t28 Inv-loop μ-loop
-mul-t28 c = omega arith
+add-t26 : tie.Need-add-t26 Inv-loop μ-loop
+add-t26 c = omega (arith, base-fits _ _ _ _ (c .before .before .before .before .before .loop .inv .0 .fits) (c .before .before .before .before .loop-test .taken) (c .before .before .blocking .ensures))
 
-shared-slice-read-t24-2 : tie.Need-shared-slice-read-t24-2 Inv-loop μ-loop
-shared-slice-read-t24-2 c = omega (arith, c .before .before .before .before .before .before .before .loop .inv .0 .fits .deadlinesLong, c .before .before .before .before .before .before .loop-test .taken)
+mul-t23-2 : tie.Need-mul-t23-2 Inv-loop μ-loop
+mul-t23-2 c = omega arith
+
+shared-slice-read-t26 : tie.Need-shared-slice-read-t26 Inv-loop μ-loop
+shared-slice-read-t26 c = omega (arith, c .before .before .before .before .before .before .loop .inv .0 .fits .latestLong, c .before .before .before .before .before .loop-test .taken)
+
+mul-t29 : tie.Need-mul-t29 Inv-loop μ-loop
+mul-t29 c = omega arith
+
+shared-slice-read-t25-2 : tie.Need-shared-slice-read-t25-2 Inv-loop μ-loop
+shared-slice-read-t25-2 c = omega (arith, c .before .before .before .before .before .before .before .loop .inv .0 .fits .deadlinesLong, c .before .before .before .before .before .before .loop-test .taken)
 
 solve-requires : tie.Need-solve-requires Inv-loop μ-loop
 solve-requires c κs = (
@@ -111,15 +110,15 @@ answer-all-spec =
     Inv-loop
     μ-loop
     loop-holds
-    shared-slice-read-t20
+    shared-slice-read-t21
     blocking-requires
-    mul-t22
-    shared-slice-read-t24
-    add-t25
-    mul-t22-2
+    mul-t23
     shared-slice-read-t25
-    mul-t28
-    shared-slice-read-t24-2
+    add-t26
+    mul-t23-2
+    shared-slice-read-t26
+    mul-t29
+    shared-slice-read-t25-2
     solve-requires
     mul-answers
     slice-write-answers

@@ -1,4 +1,4 @@
--- `response::stages::after_first` meets its contract: the records are read into five slices of 32 words.
+-- `response::stages::after_first` meets its contract: the records are read into six slices of 32 words.
 -- Assumes nothing.
 use native.Mathlib.Omega.{arith}
 use mathlib.Core.Path.{refl, sym, _∙_}
@@ -9,7 +9,7 @@ use Rattle.response.proofs.stages.after_first.Statement.{statement}
 use Rattle.response.proofs.stages.after_first.Tie as tie
 
 shared-slice-read-count : tie.Need-shared-slice-read-count
-shared-slice-read-count c = omega (arith, long-enough _ (c .before .before .before .before .pre .0))
+shared-slice-read-count c = omega (arith, long-enough _ (c .before .before .before .before .pre .1 .0))
 
 count-requires : tie.Need-count-requires
 count-requires c κs = search needs
@@ -26,8 +26,14 @@ array-write-costs c = search needs
 array-write-deadlines : tie.Need-array-write-deadlines
 array-write-deadlines c = search needs
 
-array-write-jitters : tie.Need-array-write-jitters
-array-write-jitters c = search needs
+spread-requires : tie.Need-spread-requires
+spread-requires c κs = c .before .before .before .before .before .pre .1 .1 .1 .1
+
+array-write-spreads : tie.Need-array-write-spreads
+array-write-spreads c = search needs
+
+array-write-latest : tie.Need-array-write-latest
+array-write-latest c = search needs
 
 slice-aggregate-read-rest : tie.Need-slice-aggregate-read-rest
 slice-aggregate-read-rest c = search needs
@@ -44,8 +50,11 @@ slice-aggregate-read-rest-4 c = search needs
 slice-aggregate-read-rest-5 : tie.Need-slice-aggregate-read-rest-5
 slice-aggregate-read-rest-5 c = search needs
 
+slice-aggregate-read-rest-6 : tie.Need-slice-aggregate-read-rest-6
+slice-aggregate-read-rest-6 c = search needs
+
 read-rest-requires : tie.Need-read-rest-requires
-read-rest-requires c κs = records-fit _ (c .before .before .before .before .before .before .before .before .before .before .pre .0) _ (c .before .before .before .before .before .count .ensures .0) _ _ _ _ _ refl refl refl refl refl _ (c .before .before .before .before .before .before .before .before .before .before .pre .1 .0) (c .before .before .before .before .before .before .before .before .before .before .pre .1 .1) refl refl refl refl refl
+read-rest-requires c κs = records-fit _ (c .before .before .before .before .before .before .before .before .before .before .before .before .pre .1 .0) _ (c .before .before .before .before .before .before .before .before .before .before .before .before .pre .0) _ (c .before .before .before .before .before .before .before .count .ensures .0) _ _ _ _ _ _ refl refl refl refl refl refl _ _ (c .before .before .before .before .before .before .before .before .before .before .before .before .pre .1 .1 .0) (c .before .before .before .before .before .before .before .before .before .before .before .before .pre .1 .1 .1 .0) refl refl refl refl (c .before .before .before .before .before .before .spread .ensures) refl
 
 enum-told : tie.Need-enum-told
 enum-told c = search needs
@@ -65,11 +74,16 @@ slice-aggregate-after-records-4 c = search needs
 slice-aggregate-after-records-5 : tie.Need-slice-aggregate-after-records-5
 slice-aggregate-after-records-5 c = search needs
 
+slice-aggregate-after-records-6 : tie.Need-slice-aggregate-after-records-6
+slice-aggregate-after-records-6 c = search needs
+
 after-records-requires : tie.Need-after-records-requires
 after-records-requires c κs =
-    let e = c .before .before .before .before .before .before .before .before .before .before .before .before .before .before .read-rest .ensures in
-    records-held _ (c .before .before .before .before .before .before .before .before .before .before .before .before .before .before .before .before .before .before .before .before .before .before .before .before .before .pre .0) _ (c .before .before .before .before .before .before .before .before .before .before .before .before .before .before .before .before .before .before .before .before .count .ensures .0) _ _ _ _ _ refl refl refl refl refl _ _ _ _ _ (sym (e .0) ∙ c .before .before .before .before .before .before .before .enum-told .given .1)
-    (e .1 .0) (e .1 .1 .0) (e .1 .1 .1 .0) (e .1 .1 .1 .1 .0) (e .1 .1 .1 .1 .1)
+    let e = c .before .before .before .before .before .before .before .before .before .before .before .before .before .before .before .before .read-rest .ensures in (
+      c .before .before .before .before .before .before .before .before .before .before .before .before .before .before .before .before .before .before .before .before .before .before .before .before .before .before .before .before .before .pre .0,
+      records-held _ (c .before .before .before .before .before .before .before .before .before .before .before .before .before .before .before .before .before .before .before .before .before .before .before .before .before .before .before .before .before .pre .1 .0) _ (c .before .before .before .before .before .before .before .before .before .before .before .before .before .before .before .before .before .before .before .before .before .before .before .before .before .before .before .before .before .pre .0) _ (c .before .before .before .before .before .before .before .before .before .before .before .before .before .before .before .before .before .before .before .before .before .before .before .before .count .ensures .0) _ _ _ _ _ _ refl refl refl refl refl refl _ _ _ _ _ _ (sym (e .0) ∙ c .before .before .before .before .before .before .before .before .enum-told .given .1)
+          (e .1 .0) (e .1 .1 .0) (e .1 .1 .1 .0) (e .1 .1 .1 .1 .0) (e .1 .1 .1 .1 .1 .0) (e .1 .1 .1 .1 .1 .1),
+    )
 
 enum-known-checked : tie.Need-enum-known-checked
 enum-known-checked c = search needs
@@ -84,7 +98,7 @@ returns : tie.Need-returns
 returns c = search needs
 
 returns-2 : tie.Need-returns-2
-returns-2 c = records-refused _ _ _ _ (c .before .before .before .before .before .before .before .before .before .before .before .before .before .before .before .before .before .before .before .pre .0) (sym (c .before .checked .given .1) ∙ c .before .before .before .before .before .before .before .before .read-rest .ensures .0)
+returns-2 c = records-refused _ _ _ _ (c .before .before .before .before .before .before .before .before .before .before .before .before .before .before .before .before .before .before .before .before .before .before .pre .1 .0) (sym (c .before .checked .given .1) ∙ c .before .before .before .before .before .before .before .before .before .read-rest .ensures .0)
 
 pub after-first-spec : {M : Type 1} → statement M
 after-first-spec =
@@ -96,12 +110,15 @@ after-first-spec =
     array-write-periods
     array-write-costs
     array-write-deadlines
-    array-write-jitters
+    spread-requires
+    array-write-spreads
+    array-write-latest
     slice-aggregate-read-rest
     slice-aggregate-read-rest-2
     slice-aggregate-read-rest-3
     slice-aggregate-read-rest-4
     slice-aggregate-read-rest-5
+    slice-aggregate-read-rest-6
     read-rest-requires
     enum-told
     slice-aggregate-after-records
@@ -109,6 +126,7 @@ after-first-spec =
     slice-aggregate-after-records-3
     slice-aggregate-after-records-4
     slice-aggregate-after-records-5
+    slice-aggregate-after-records-6
     after-records-requires
     enum-known-checked
     same-length

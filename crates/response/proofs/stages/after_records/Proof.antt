@@ -7,7 +7,7 @@ use Rattle.response.proofs.stages.after_records.Statement.{statement}
 use Rattle.response.proofs.stages.after_records.Tie as tie
 
 shared-slice-read-count : tie.Need-shared-slice-read-count
-shared-slice-read-count c = omega (arith, long-enough _ (c .before .before .before .before .before .before .before .before .before .pre .head))
+shared-slice-read-count c = omega (arith, long-enough _ (c .before .before .before .before .before .before .before .before .before .before .pre .1 .head))
 
 count-requires : tie.Need-count-requires
 count-requires c κs = search needs

@@ -19,8 +19,8 @@ slice-aggregate-read-all-3 c = search needs
 
 read-all-requires : tie.Need-read-all-requires
 read-all-requires c κs =
-    let p = c .before .before .before .before .before .before .before .before .before .before .before .pre .0 in
-    rows-fit _ (p .head) _ (p .counted) _ (c .before .before .before .before .before .before .before .before .before .before .before .pre .1) _ _ _ refl refl refl _ (p .costsHeld)
+    let p = c .before .before .before .before .before .before .before .before .before .before .before .before .pre .1 .0 in
+    rows-fit _ (p .head) _ (c .before .before .before .before .before .before .before .before .before .before .before .before .pre .0) _ (p .counted) _ (c .before .before .before .before .before .before .before .before .before .before .before .before .pre .1 .1) _ _ _ refl refl refl _ (p .costsHeld)
 
 enum-told : tie.Need-enum-told
 enum-told c = search needs
@@ -30,7 +30,7 @@ room-requires c κs = search needs
 
 returns : tie.Need-returns
 returns c =
-    let p = c .before .before .before .before .before .before .before .before .before .before .before .before .before .before .before .before .before .before .before .pre .0 in
+    let p = c .before .before .before .before .before .before .before .before .before .before .before .before .before .before .before .before .before .before .before .before .pre .1 .0 in
     no-room _ _ _ (p .head) (p .records) (sym (c .before .before .before .before .before .before .before .read-all .ensures .0) ∙ c .before .before .enum-told .given .1) _ (p .counted) (refuted (c .before .room .ensures) (c .if1 .taken))
 
 slice-aggregate-after-rows : tie.Need-slice-aggregate-after-rows
@@ -44,11 +44,11 @@ slice-aggregate-after-rows-3 c = search needs
 
 after-rows-requires : tie.Need-after-rows-requires
 after-rows-requires c κs =
-    let p = c .before .before .before .before .before .before .before .before .before .before .before .before .before .before .before .before .before .before .before .before .before .before .before .before .pre .0 in
+    let p = c .before .before .before .before .before .before .before .before .before .before .before .before .before .before .before .before .before .before .before .before .before .before .before .before .before .pre .1 .0 in
     let e = c .before .before .before .before .before .before .before .before .before .before .before .before .read-all .ensures in (
       p,
       (
-        rows-read _ (p .head) _ (p .counted) _ (c .before .before .before .before .before .before .before .before .before .before .before .before .before .before .before .before .before .before .before .before .before .before .before .before .pre .1) _ _ _ refl refl refl _ _ _ (sym (e .0) ∙ c .before .before .before .before .before .before .before .enum-told .given .1)
+        rows-read _ (p .head) _ (c .before .before .before .before .before .before .before .before .before .before .before .before .before .before .before .before .before .before .before .before .before .before .before .before .before .pre .0) _ (p .counted) _ (c .before .before .before .before .before .before .before .before .before .before .before .before .before .before .before .before .before .before .before .before .before .before .before .before .before .pre .1 .1) _ _ _ refl refl refl _ _ _ (sym (e .0) ∙ c .before .before .before .before .before .before .before .enum-told .given .1)
             (e .1 .0) (e .1 .1 .0) (e .1 .1 .1),
         room-is _ _ _ (confirmed (c .before .before .before .before .before .before .room .ensures) (c .before .before .before .before .before .if1 .left)),
       ),
@@ -68,7 +68,7 @@ returns-2 c = search needs
 
 returns-3 : tie.Need-returns-3
 returns-3 c =
-    let p = c .before .before .before .before .before .before .before .before .before .before .before .before .before .before .before .before .before .before .pre .0 in
+    let p = c .before .before .before .before .before .before .before .before .before .before .before .before .before .before .before .before .before .before .before .pre .1 .0 in
     rows-refused _ _ _ (p .head) (p .records) _ (sym (c .before .checked .given .1) ∙ c .before .before .before .before .before .before .read-all .ensures .0)
 
 pub with-rows-spec : {M : Type 1} → statement M

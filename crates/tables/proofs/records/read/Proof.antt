@@ -3,7 +3,6 @@
 use mathlib.Core.Path.{refl}
 use native.Mathlib.Omega.{arith}
 use Prim.Native.Nat.{_+_}
-use Rattle.model.proofs.Tasks.{same-task}
 use borrow.Author.Needs.{needs}
 use Rattle.tables.proofs.records.read.Statement.{statement}
 use Rattle.tables.proofs.records.read.Tie as tie
@@ -32,15 +31,15 @@ add-word-3 c = search needs
 word-requires-3 : tie.Need-word-requires-3
 word-requires-3 c κs = search needs
 
-add-word-4 : tie.Need-add-word-4
-add-word-4 c = search needs
-
-word-requires-4 : tie.Need-word-requires-4
-word-requires-4 c κs = search needs
-
 returns : tie.Need-returns
 returns c =
-    (same-task _ _ refl (c .before .before .before .word .ensures) (c .before .before .word2 .ensures) (c .before .word3 .ensures) (c .word4 .ensures), omega (arith, c .before .before .before .before .before .shared-slice-known .given (c .before .before .before .before .before .before .args .at + 0)))
+    record {
+      priority = refl;
+      period = c .before .before .word .ensures;
+      cost = c .before .word2 .ensures;
+      deadline = c .word3 .ensures;
+      small = omega (arith, c .before .before .before .before .shared-slice-known .given (c .before .before .before .before .before .args .at + 0));
+    }
 
 pub read-spec : {M : Type 1} → statement M
 read-spec =
@@ -54,6 +53,4 @@ read-spec =
     word-requires-2
     add-word-3
     word-requires-3
-    add-word-4
-    word-requires-4
     returns)

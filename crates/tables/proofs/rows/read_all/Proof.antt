@@ -7,7 +7,7 @@ use borrow.Author.Needs.{needs}
 use Rattle.model.specs.Tables.{Row}
 use Rattle.model.proofs.Filling.{Filling, filling-none, filling-more, filling-at}
 use Rattle.tables.specs.Layout.{placeIn, semaphoreIn, longestIn}
-use Rattle.tables.proofs.RowLaws.{Scanning, scanning-none, as-row, row-wrong, scanning-more, scanning-all}
+use Rattle.tables.proofs.RowLaws.{Scanning, scanning-none, row-near, as-row, row-wrong, scanning-more, scanning-all}
 use Rattle.tables.proofs.rows.read_all.Statement.{statement}
 use Rattle.tables.proofs.rows.read_all.Tie as tie
 
@@ -22,15 +22,15 @@ abbrev μ-loop : tie.MeasureT-loop
 μ-loop table n m costs places₀ semaphores₀ longest₀ before₀ at₀ k₀ places semaphores longest before at k = m - k
 
 mul-at : tie.Need-mul-at Inv-loop μ-loop
-mul-at c = omega (arith, c .before .before .before .before .before .pre .within, c .before .before .before .before .before .good)
+mul-at c = omega (arith, c .before .before .before .before .before .before .pre .within, c .before .before .before .before .before .before .good)
 
 add-at : tie.Need-add-at Inv-loop μ-loop
-add-at c = omega (arith, c .before .before .before .before .before .pre .within, c .before .before .before .before .before .good)
+add-at c = omega (arith, c .before .before .before .before .before .before .pre .within, c .before .before .before .before .before .before .good)
 
 loop-holds : tie.Need-loop-holds Inv-loop μ-loop
 loop-holds c =
-    let p = c .before .before .before .before .before .pre in (
-      scanning-none _ _ _ _ p,
+    let p = c .before .before .before .before .before .before .pre in (
+      scanning-none _ _ _ _ _ p,
       filling-none _ _ _ (p .placesLong),
       filling-none _ _ _ (p .semaphoresLong),
       filling-none _ _ _ (p .longestLong),
@@ -41,7 +41,7 @@ read-requires c κs = omega (arith, c .before .loop .inv .0 .here, c .before .lo
 
 check-requires : tie.Need-check-requires Inv-loop μ-loop
 check-requires c κs =
-    (omega (arith, c .before .before .loop .inv .0 .here, c .before .before .loop .inv .0 .fewTasks, c .before .before .loop .inv .0 .fewRows, c .before .loop-test .taken), (c .read .ensures .1, c .before .before .loop .inv .0 .costsLong))
+    (row-near _ _ _ _ _ _ _ (c .before .before .loop .inv .0) (c .before .loop-test .taken) _ (c .read .ensures .0) (c .read .ensures .1 .1), (c .read .ensures .1, c .before .before .loop .inv .0 .costsLong))
 
 enum-told : tie.Need-enum-told Inv-loop μ-loop
 enum-told c = search needs
@@ -83,7 +83,7 @@ returns c =
     (w .0, (filling-at _ _ _ _ _ (v .1) _ (w .1), (filling-at _ _ _ _ _ (v .2) _ (w .1), filling-at _ _ _ _ _ (v .3) _ (w .1))))
 
 add-at-2 : tie.Need-add-at-2 Inv-loop μ-loop
-add-at-2 c = omega (arith, c .before .before .before .before .before .before .before .loop .inv .0 .here, c .before .before .before .before .before .before .before .loop .inv .0 .fits, c .before .before .before .before .before .before .loop-test .taken, c .before .before .before .before .before .before .before .before .before .before .before .before .before .good)
+add-at-2 c = omega (arith, c .before .before .before .before .before .before .before .loop .inv .0 .here, c .before .before .before .before .before .before .before .loop .inv .0 .fits, c .before .before .before .before .before .before .loop-test .taken, c .before .before .before .before .before .before .before .before .before .before .before .before .before .before .good)
 
 add-k : tie.Need-add-k Inv-loop μ-loop
 add-k c = omega arith

@@ -1,0 +1,156 @@
+-- Version 1 tables keep their answers and rounds.
+-- Assumes nothing.
+use Prim.Native.Nat.{ℕ}
+use native.Mathlib.Omega.{arith}
+use native.Mathlib.Nat.{add-zero}
+use mathlib.Core.Path.{_≡_, refl, sym, _∙_, ap, subst}
+use mathlib.Core.Logic.{inl}
+use mathlib.Core.List.{List}
+use Rattle.model.specs.Lists.{tabulate}
+use Rattle.model.specs.Tables.{Task, Table, Load, taskOf, loadOf, loadsOf, moreUrgent}
+use Rattle.model.proofs.Keep.{map-keep-same}
+use Rattle.model.proofs.Tasks.{same-task, same-row}
+use Rattle.tables.specs.declared.layout.Layout.{Layout}
+use Rattle.tables.specs.Layout.{byteAt, versionOf, versionOne, layoutFor, layoutOf, taskCount, rowCount, lengthFor, recordStart, recordFrom, taskAt, rowStart, rowFrom, rowAt, tableOf, earliestIn}
+use Rattle.tables.specs.Fields.{taskCountField, rowCountField, periodField, costField, deadlineField, earliestField, latestField, priorityField, placeField, semaphoreField, longestField, orderField}
+use Rattle.tables.specs.Meaning.{Within, CountsRight, RecordRight, RowRight, TableRight}
+use Rattle.equation.specs.Answer.{answer}
+use Rattle.equation.specs.Sequence.{rounds}
+use Rattle.response.specs.Analysis.{baseOf, answerOf, roundsOf}
+use Rattle.response.specs.VersionOne.{recordOne, startOne, taskOne, rowOne, tableOne, RecordRules, RowRules, Rules, jitterOf, jitterLoad, jitterLoads, answerOne, roundsOne, VersionOneKept}
+use Rattle.response.proofs.DecodedLaws.{same-load}
+use Rattle.response.proofs.Demands.{answer-word, rounds-word}
+
+module _ (bytes : List ℕ) (one : versionOf bytes ≡ 1) where
+  layout-is : layoutOf bytes ≡ versionOne
+  unfolding layoutFor
+  layout-is = rw one
+
+  task-one : (i : ℕ) → taskAt bytes i ≡ taskOne bytes i
+  task-one i =
+      ap (λ (l : Layout). recordFrom l bytes (recordStart l i)) layout-is
+      ∙ same-task _ (taskOne bytes i) (ap (byteAt bytes) (add-zero (recordOne i))) refl refl refl refl refl
+
+  row-one : (k : ℕ) → rowAt bytes k ≡ rowOne bytes k
+  row-one k =
+      ap (λ (l : Layout). rowFrom bytes (rowStart l (taskCount bytes) k)) layout-is
+      ∙ same-row _ (rowOne bytes k) (ap (byteAt bytes) (add-zero (startOne bytes k))) refl refl
+
+  table-one : tableOf bytes ≡ tableOne bytes
+  table-one =
+      λ j.
+      record {
+        tasks = tabulate (λ i. task-one i j) (taskCount bytes);
+        rows = tabulate (λ k. row-one k j) (rowCount bytes);
+      }
+
+  tasks-one : taskAt bytes ≡ taskOne bytes
+  tasks-one = λ j i. task-one i j
+
+  rows-one : rowAt bytes ≡ rowOne bytes
+  rows-one = λ j k. row-one k j
+
+  -- version 1 has no earliest delay, so that its rule holds
+  no-earliest : (i : ℕ) → earliestIn bytes i ≡ 0
+  no-earliest i = ap (λ (t : Task). t .earliest) (task-one i)
+
+  rules-hold : TableRight bytes → Rules bytes (taskAt bytes) (rowAt bytes)
+  rules-hold t =
+      record {
+        longEnough = t .head .longEnough;
+        tasks = subst (λ (l : Layout). Within 1 (l .most) (taskCount bytes)) layout-is (t .head .counts taskCountField);
+        rows = t .head .counts rowCountField;
+        stated = t .head .lengths .stated;
+        summed = sym (ap (λ (l : Layout). lengthFor l (taskCount bytes) (rowCount bytes)) layout-is) ∙ t .head .lengths .summed;
+        records = λ i h.
+            let right = t .records i h in
+            record {
+              period = right periodField;
+              cost = right costField;
+              deadline = right deadlineField;
+              jitter = record { low = omega arith; high = right latestField .high };
+              positive = right priorityField .positive;
+              falls = right priorityField .falls;
+            };
+        sections = λ k h.
+            let right = t .rows k h in
+            record { place = right placeField; semaphore = right semaphoreField; longest = right longestField; rise = right orderField };
+      }
+
+  right-holds : Rules bytes (taskAt bytes) (rowAt bytes) → TableRight bytes
+  right-holds r =
+      record {
+        head =
+            record {
+              longEnough = r .longEnough;
+              version = inl one;
+              counts = counts;
+              lengths =
+                  record {
+                    stated = r .stated;
+                    summed = ap (λ (l : Layout). lengthFor l (taskCount bytes) (rowCount bytes)) layout-is ∙ r .summed;
+                  };
+            };
+        records = λ i h. record-holds i (r .records i h);
+        rows = λ k h. row-holds k (r .sections k h);
+      }
+    where
+      counts : CountsRight bytes
+      counts taskCountField = subst (λ (l : Layout). Within 1 (l .most) (taskCount bytes)) (sym layout-is) (r .tasks)
+      counts rowCountField = r .rows
+
+      record-holds : (i : ℕ) → RecordRules (taskAt bytes) i → RecordRight bytes i
+      record-holds i rules periodField = rules .period
+      record-holds i rules costField = rules .cost
+      record-holds i rules deadlineField = rules .deadline
+      record-holds i rules earliestField = record { low = omega arith; high = omega (arith, no-earliest i) }
+      record-holds i rules latestField = record { low = omega (arith, no-earliest i); high = rules .jitter .high }
+      record-holds i rules priorityField = record { positive = rules .positive; falls = rules .falls }
+
+      row-holds : (k : ℕ) → RowRules (taskCount bytes) (taskAt bytes) (rowAt bytes) k → RowRight bytes k
+      row-holds k rules placeField = rules .place
+      row-holds k rules semaphoreField = rules .semaphore
+      row-holds k rules longestField = rules .longest
+      row-holds k rules orderField = rules .rise
+
+  rules-same : Rules bytes (taskAt bytes) (rowAt bytes) ≡ Rules bytes (taskOne bytes) (rowOne bytes)
+  rules-same = λ j. Rules bytes (tasks-one j) (rows-one j)
+
+-- where no task has an earliest delay, the difference is the latest
+loads-one : (bytes : List ℕ) (i : ℕ) → loadsOf (tableOne bytes .tasks) i ≡ jitterLoads (tableOne bytes) i
+loads-one bytes i =
+    map-keep-same (moreUrgent (taskOf (tableOne bytes .tasks) i .priority)) loadOf jitterLoad (taskOne bytes) (taskCount bytes)
+    (λ k. same-load (loadOf (taskOne bytes k)) (jitterLoad (taskOne bytes k)) refl refl (omega arith))
+
+answer-one : (bytes : List ℕ) (i : ℕ) → answerOf (tableOne bytes) i ≡ answerOne (tableOne bytes) i
+unfolding answerOf
+answer-one bytes i =
+    ap (λ (ls : List Load). answer (baseOf (tableOne bytes) i) ls (jitterOf (tableOne bytes) i) (taskOf (tableOne bytes .tasks) i .deadline))
+    (loads-one bytes i)
+
+rounds-one : (bytes : List ℕ) (i : ℕ) → roundsOf (tableOne bytes) i ≡ roundsOne (tableOne bytes) i
+unfolding roundsOf
+rounds-one bytes i =
+    ap
+    (λ (ls : List Load).
+    rounds (baseOf (tableOne bytes) i) ls (baseOf (tableOne bytes) i) (jitterOf (tableOne bytes) i) (taskOf (tableOne bytes .tasks) i .deadline))
+    (loads-one bytes i)
+
+pub versionOneKept : VersionOneKept
+versionOneKept =
+    record {
+      reads = table-one;
+      accepts = λ bytes one rules. right-holds bytes one (subst (λ (A : Type 0). A) (sym (rules-same bytes one)) rules);
+      refuses = λ bytes one right. subst (λ (A : Type 0). A) (rules-same bytes one) (rules-hold bytes one right);
+      keeps = λ bytes answers rounds verdict answersLeft roundsLeft outcome right room one i h.
+          record {
+            answerKept =
+                answer-word bytes answers rounds verdict answersLeft roundsLeft outcome right room i h
+                ∙ ap (λ (t : Table). answerOf t i) (table-one bytes one)
+                ∙ answer-one bytes i;
+            roundsKept =
+                rounds-word bytes answers rounds verdict answersLeft roundsLeft outcome right room i h
+                ∙ ap (λ (t : Table). roundsOf t i) (table-one bytes one)
+                ∙ rounds-one bytes i;
+          };
+    }

@@ -1,0 +1,70 @@
+-- What a version decides: the layouts that are known, and what they keep to.
+-- Assumes nothing.
+use Prim.Native.Nat.{ℕ, _+_, _*_, _≤_, _<_}
+use native.Mathlib.Omega.{arith}
+use native.Mathlib.Nat.{mul-le-mul-left, mul-le-mul}
+use mathlib.Core.Path.{_≡_, _∙_, ap}
+use mathlib.Core.Bool.{true}
+use mathlib.Core.List.{List}
+use mathlib.Core.Logic.{inl, inr}
+use Rattle.model.proofs.Tests.{eqb?, clash}
+use Rattle.tables.specs.declared.layout.Layout.{Layout}
+use Rattle.tables.specs.Layout.{versionOne, versionTwo, noVersion, versionOf, layoutFor, layoutOf, recordStart}
+use Rattle.tables.specs.Meaning.{VersionKnown}
+use Rattle.tables.specs.Reading.{Sound}
+
+-- a layout is known where the version is 1 or 2, and only there
+pub known-means : (bytes : List ℕ) → layoutOf bytes .known ≡ true → VersionKnown bytes
+unfolding layoutFor
+known-means bytes p =
+    elim (eqb? (versionOf bytes) 1) [
+      | inl one ↦ inl (one .1)
+      | inr other ↦
+          elim (eqb? (versionOf bytes) 2) [
+            | inl two ↦ inr (two .1)
+            | inr none ↦
+                let unknown : layoutOf bytes ≡ noVersion = rw (other .0, none .0) in
+                absurd (clash _ p (ap (λ (l : Layout). l .known) unknown))
+          ]
+    ]
+
+pub known-holds : (bytes : List ℕ) → VersionKnown bytes → layoutOf bytes .known ≡ true
+unfolding layoutFor
+known-holds bytes (inl one) = rw one
+known-holds bytes (inr two) = rw two
+
+-- every layout that is known is sound
+pub layout-sound : (bytes : List ℕ) → VersionKnown bytes → Sound (layoutOf bytes)
+unfolding layoutFor
+layout-sound bytes (inl one) = rw one (record { fields = omega arith; latestInside = omega arith; small = omega arith; few = omega arith })
+layout-sound bytes (inr two) = rw two (record { fields = omega arith; latestInside = omega arith; small = omega arith; few = omega arith })
+
+-- no version's records are longer
+pub size-small : (bytes : List ℕ) (layout : Layout) → layout ≡ layoutOf bytes → layout .size ≤ 21
+unfolding layoutFor
+size-small bytes layout decided =
+    elim (eqb? (versionOf bytes) 1) [
+      | inl one ↦ let is : layoutOf bytes ≡ versionOne = rw (one .0) in rw (decided ∙ is) (omega arith)
+      | inr other ↦
+          elim (eqb? (versionOf bytes) 2) [
+            | inl two ↦ let is : layoutOf bytes ≡ versionTwo = rw (other .0, two .0) in rw (decided ∙ is) (omega arith)
+            | inr none ↦ let is : layoutOf bytes ≡ noVersion = rw (other .0, none .0) in rw (decided ∙ is) (omega arith)
+          ]
+    ]
+
+module _ (layout : Layout) where
+  -- where the next record begins
+  pub next-start : (i : ℕ) → recordStart layout i + layout .size ≡ recordStart layout (i + 1)
+  next-start i = omega arith
+
+  -- a record ends within its table's records
+  pub record-inside : {i n : ℕ} → i < n → recordStart layout i + layout .size ≤ recordStart layout n
+  record-inside {i} {n} h =
+      let more : layout .size * (i + 1) ≤ layout .size * n = mul-le-mul-left (layout .size) (omega arith) in
+      omega arith
+
+  -- no record begins far on
+  pub start-small : Sound layout → {n : ℕ} → n ≤ 32 → recordStart layout n ≤ 677
+  start-small s {n} few =
+      let most : layout .size * n ≤ 21 * 32 = mul-le-mul (s .small) few in
+      omega arith
