@@ -6,7 +6,7 @@ ghost use Rattle.model.specs.Lists.{wordOf};
 ghost use Rattle.tables.specs.Layout.{layoutOf, rowCount, taskAt, costIn};
 ghost use Rattle.tables.specs.declared.Check.the-variants as check;
 ghost use Rattle.tables.specs.Checks.{headCheck, recordCheck};
-ghost use Rattle.tables.specs.Reading.{taskFrom, NumbersRead, numbersFault};
+ghost use Rattle.reading.specs.Reading.{taskFrom, NumbersRead, numbersFault};
 ghost use Rattle.response.specs.Outcome.{resultOf};
 ghost use Rattle.response.specs.Stages.{Holds};
 ghost use Rattle.engine.specs.Outcome.{Played, playCheck};
@@ -14,6 +14,9 @@ ghost use Rattle.engine.specs.Stages.{RecordsRead, NumbersHeld};
 use machine::largest;
 use machine::play_all;
 use model::Place;
+use reading::records::ABOVE_EVERY_PRIORITY;
+use reading::records::Delays;
+use reading::records::TaskRecord;
 use response::Verdict;
 use tables::Check;
 use tables::HEAD_SIZE;
@@ -23,9 +26,6 @@ use tables::TASK_COUNT_AT;
 use tables::VERSION_AT;
 use tables::fields::count;
 use tables::layout::Layout;
-use tables::records::ABOVE_EVERY_PRIORITY;
-use tables::records::Delays;
-use tables::records::TaskRecord;
 
 // The head is right: looks at the first record before room is made for all.
 pub fn after_head(table: &[u8], answers: &mut [u32]) -> Verdict
@@ -33,8 +33,8 @@ pub fn after_head(table: &[u8], answers: &mut [u32]) -> Verdict
     ensures { λ r. ⌜ Played (now (table .entry)) (now (answers .entry)) r (now (answers .exit)) ⌝ }
 {
     let layout = tables::layout::of(table[VERSION_AT]);
-    let first = tables::records::read(table, HEAD_SIZE);
-    let checked = tables::records::check_numbers(first, HEAD_SIZE);
+    let first = reading::records::read(table, HEAD_SIZE);
+    let checked = reading::records::check_numbers(first, HEAD_SIZE);
     match checked {
         Check::Clean => after_numbers(table, layout, first, answers),
         Check::Refused(refusal) => Verdict::Refused(refusal),
@@ -54,8 +54,8 @@ pub fn after_numbers(
     requires { ⌜ numbersFault first 5 ≡ check.Clean ⌝ }
     ensures { λ r. ⌜ Played (now (table .entry)) (now (answers .entry)) r (now (answers .exit)) ⌝ }
 {
-    let delays = tables::records::read_delays(table, layout, HEAD_SIZE);
-    let checked = tables::records::check_rest(
+    let delays = reading::records::read_delays(table, layout, HEAD_SIZE);
+    let checked = reading::records::check_rest(
         delays,
         first.priority,
         layout,
@@ -94,9 +94,9 @@ pub fn after_first(
     periods[0] = first.period.0;
     costs[0] = first.cost.0;
     deadlines[0] = first.deadline.0;
-    spreads[0] = tables::records::spread(delays).0;
+    spreads[0] = reading::records::spread(delays).0;
     latest[0] = delays.latest.0;
-    let checked = tables::records::read_rest(
+    let checked = reading::records::read_rest(
         table,
         layout,
         n,
@@ -163,7 +163,7 @@ pub fn with_rows(
     let mut places = [0u8; 64];
     let mut semaphores = [0u8; 64];
     let mut longest = [0u32; 64];
-    let checked = tables::rows::read_all(
+    let checked = reading::rows::read_all(
         table,
         layout,
         n,

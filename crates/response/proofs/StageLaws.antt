@@ -16,17 +16,17 @@ use Rattle.model.specs.Lists.{filled}
 use Rattle.model.specs.Tables.{Task, spreadOf}
 use Rattle.tables.specs.declared.layout.Layout.{Layout}
 use Rattle.tables.specs.declared.Refusal.{Refusal}
-use Rattle.tables.specs.declared.records.TaskRecord.{TaskRecord}
-use Rattle.tables.specs.declared.records.Delays.{Delays}
+use Rattle.reading.specs.declared.records.TaskRecord.{TaskRecord}
+use Rattle.reading.specs.declared.records.Delays.{Delays}
 use Rattle.tables.specs.declared.Check.{Check}
 use Rattle.tables.specs.declared.Check.the-variants.{Clean, Refused}
 use Rattle.tables.specs.Fields.{taskCountField, rowCountField}
-use Rattle.tables.specs.Layout.{layoutOf, taskCount, rowCount, recordStart, rowStart, taskAt, priorityIn, periodIn, costIn, deadlineIn, spreadIn, latestIn, placeIn, semaphoreIn, longestIn}
+use Rattle.tables.specs.Layout.{layoutOf, taskCount, rowCount, recordStart, rowStart, taskAt, priorityIn, periodIn, costIn, deadlineIn, spreadIn, latestIn, placeIn, semaphoreIn, longestIn, Sound}
 use Rattle.tables.specs.Checks.{headCheck, recordCheck, recordsCheck, rowCheck, rowsCheck, recordsRead, rowsRead}
-use Rattle.tables.specs.Reading.{Sound, RecordsFit, RowsFit, NumbersRead, DelaysRead, taskFrom, numbersFault, restFault}
+use Rattle.reading.specs.Reading.{RecordsFit, RowsFit, NumbersRead, DelaysRead, taskFrom, numbersFault, restFault}
 use Rattle.tables.specs.Meaning.{HeadRight}
 use Rattle.tables.proofs.LayoutLaws.{layout-sound, record-inside}
-use Rattle.tables.proofs.RecordLaws.{numbers-decide, task-is, rest-decides, first-order, first-refuses}
+use Rattle.reading.proofs.RecordLaws.{numbers-decide, task-is, rest-decides, first-order, first-refuses}
 use Rattle.tables.proofs.CheckLaws.{head-right, records-all, rows-all}
 use Rattle.response.specs.Stages.{Holds, RecordsHeld, RowsRead}
 use Rattle.response.proofs.DecodedLaws.{holds-filled}

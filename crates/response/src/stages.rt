@@ -7,11 +7,14 @@ ghost use Rattle.model.specs.Choice.{both};
 ghost use Rattle.tables.specs.Layout.{layoutOf, rowCount, taskAt};
 ghost use Rattle.tables.specs.declared.Check.the-variants as check;
 ghost use Rattle.tables.specs.Checks.{headCheck, recordCheck};
-ghost use Rattle.tables.specs.Reading.{taskFrom, NumbersRead, numbersFault};
+ghost use Rattle.reading.specs.Reading.{taskFrom, NumbersRead, numbersFault};
 ghost use Rattle.response.specs.Outcome.{Outcome};
 ghost use Rattle.response.specs.Stages.{RecordsHeld, RowsRead};
 use crate::Verdict;
 use crate::answering::answer_all;
+use reading::records::ABOVE_EVERY_PRIORITY;
+use reading::records::Delays;
+use reading::records::TaskRecord;
 use tables::Check;
 use tables::HEAD_SIZE;
 use tables::ROW_COUNT_AT;
@@ -20,9 +23,6 @@ use tables::TASK_COUNT_AT;
 use tables::VERSION_AT;
 use tables::fields::count;
 use tables::layout::Layout;
-use tables::records::ABOVE_EVERY_PRIORITY;
-use tables::records::Delays;
-use tables::records::TaskRecord;
 
 // The head is right: looks at the first record before room is made for all.
 pub fn after_head(table: &[u8], answers: &mut [u32], rounds: &mut [u32]) -> Verdict
@@ -30,8 +30,8 @@ pub fn after_head(table: &[u8], answers: &mut [u32], rounds: &mut [u32]) -> Verd
     ensures { λ r. ⌜ Outcome (now (table .entry)) (now (answers .entry)) (now (rounds .entry)) r (now (answers .exit)) (now (rounds .exit)) ⌝ }
 {
     let layout = tables::layout::of(table[VERSION_AT]);
-    let first = tables::records::read(table, HEAD_SIZE);
-    let checked = tables::records::check_numbers(first, HEAD_SIZE);
+    let first = reading::records::read(table, HEAD_SIZE);
+    let checked = reading::records::check_numbers(first, HEAD_SIZE);
     match checked {
         Check::Clean => after_numbers(table, layout, first, answers, rounds),
         Check::Refused(refusal) => Verdict::Refused(refusal),
@@ -52,8 +52,8 @@ pub fn after_numbers(
     requires { ⌜ numbersFault first 5 ≡ check.Clean ⌝ }
     ensures { λ r. ⌜ Outcome (now (table .entry)) (now (answers .entry)) (now (rounds .entry)) r (now (answers .exit)) (now (rounds .exit)) ⌝ }
 {
-    let delays = tables::records::read_delays(table, layout, HEAD_SIZE);
-    let checked = tables::records::check_rest(
+    let delays = reading::records::read_delays(table, layout, HEAD_SIZE);
+    let checked = reading::records::check_rest(
         delays,
         first.priority,
         layout,
@@ -93,9 +93,9 @@ pub fn after_first(
     periods[0] = first.period.0;
     costs[0] = first.cost.0;
     deadlines[0] = first.deadline.0;
-    spreads[0] = tables::records::spread(delays).0;
+    spreads[0] = reading::records::spread(delays).0;
     latest[0] = delays.latest.0;
-    let checked = tables::records::read_rest(
+    let checked = reading::records::read_rest(
         table,
         layout,
         n,
@@ -243,7 +243,7 @@ pub fn with_rows(
     let mut places = [0u8; 64];
     let mut semaphores = [0u8; 64];
     let mut longest = [0u32; 64];
-    let checked = tables::rows::read_all(
+    let checked = reading::rows::read_all(
         table,
         layout,
         n,

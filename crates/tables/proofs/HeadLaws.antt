@@ -13,11 +13,10 @@ use Rattle.tables.specs.declared.layout.Layout.{Layout}
 use Rattle.tables.specs.declared.Check.the-variants.{Clean, Refused}
 use Rattle.tables.specs.declared.Refusal.{Refusal}
 use Rattle.tables.specs.declared.Refusal.the-variants.{TooShort, UnknownVersion, CountOutOfRange, LengthsDiffer}
-use Rattle.tables.specs.Layout.{layoutOf, taskCount, rowCount, statedLength, lengthFor}
+use Rattle.tables.specs.Layout.{layoutOf, taskCount, rowCount, statedLength, lengthFor, Sound}
 use Rattle.tables.specs.Refusals.{offset, firstIn, unless, orElse, fieldsCheck}
 use Rattle.tables.specs.Rules.{between, countTest, lengthsAgree}
 use Rattle.tables.specs.Checks.{countsCheck, headCheck}
-use Rattle.tables.specs.Reading.{Sound}
 use Rattle.tables.proofs.LayoutLaws.{known-means, layout-sound, start-small}
 use Rattle.tables.proofs.MeaningLaws.{between-means}
 

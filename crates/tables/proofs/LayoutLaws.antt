@@ -9,9 +9,8 @@ use mathlib.Core.List.{List}
 use mathlib.Core.Logic.{inl, inr}
 use Rattle.model.proofs.Tests.{eqb?, clash}
 use Rattle.tables.specs.declared.layout.Layout.{Layout}
-use Rattle.tables.specs.Layout.{versionOne, versionTwo, noVersion, versionOf, layoutFor, layoutOf, recordStart}
+use Rattle.tables.specs.Layout.{versionOne, versionTwo, noVersion, versionOf, layoutFor, layoutOf, recordStart, Sound}
 use Rattle.tables.specs.Meaning.{VersionKnown}
-use Rattle.tables.specs.Reading.{Sound}
 
 -- a layout is known where the version is 1 or 2, and only there
 pub known-means : (bytes : List ℕ) → layoutOf bytes .known ≡ true → VersionKnown bytes

@@ -5,7 +5,5 @@ pub mod MeaningLaws
 pub mod CheckLaws
 pub mod OrderLaws
 pub mod HeadLaws
-pub mod RecordLaws
-pub mod RowLaws
 pub mod PlaceLaws
 pub mod ExampleLaws

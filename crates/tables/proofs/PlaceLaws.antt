@@ -7,11 +7,10 @@ use mathlib.Core.List.{List}
 use Rattle.tables.specs.declared.layout.Layout.{Layout}
 use Rattle.tables.specs.declared.Refusal.{Refusal}
 use Rattle.tables.specs.declared.Refusal.the-variants.{TooShort, UnknownVersion, CountOutOfRange, LengthsDiffer, NumberOutOfRange, PriorityOutOfOrder, SectionRow, NoRoom, NotPlayable}
-use Rattle.tables.specs.Layout.{layoutOf, taskCount, recordStart, rowStart}
+use Rattle.tables.specs.Layout.{layoutOf, taskCount, recordStart, rowStart, Sound}
 use Rattle.tables.specs.Refusals.{placeOf}
 use Rattle.tables.specs.Fields.{CountField, taskCountField, rowCountField, countRefusal, RecordField, periodField, costField, deadlineField, earliestField, latestField, priorityField, recordRefusal, RowField, placeField, semaphoreField, longestField, orderField, rowRefusal}
 use Rattle.tables.specs.Meaning.{HeadRight}
-use Rattle.tables.specs.Reading.{Sound}
 use Rattle.tables.specs.Deserved.{RecordFault, Deserved}
 use Rattle.tables.proofs.LayoutLaws.{layout-sound, record-inside, start-small}
 

@@ -1,7 +1,7 @@
 -- House form, versions 1 and 2: which bytes hold which field, and the table that the bytes mean (document 01, "The table's bytes";
 -- document 02, L4).
 -- Assumes nothing.
-use Prim.Native.Nat.{ℕ, _+_, _*_}
+use Prim.Native.Nat.{ℕ, _+_, _*_, _≤_}
 use mathlib.Core.Bool.{true, false}
 use mathlib.Core.List.{List}
 use lib.Dec.{eqb}
@@ -124,6 +124,14 @@ recordFrom layout bytes at =
 
 abbrev pub taskAt : List ℕ → ℕ → Task
 taskAt bytes i = recordFrom (layoutOf bytes) bytes (recordStart (layoutOf bytes) i)
+
+-- what every layout that the reader knows keeps to: the fields end within the record, and records and tasks are not too many for the
+-- sums that are made of them
+pub record Sound (layout : Layout) : Type 0 where
+  pub fields : 17 ≤ layout .size
+  pub latestInside : latestAt (layout .delays) + 4 ≤ layout .size
+  pub small : layout .size ≤ 21
+  pub few : layout .most ≤ 32
 
 -- "task place (1), semaphore (1), longest section (4)": where each begins in its row
 abbrev pub placeAt : ℕ

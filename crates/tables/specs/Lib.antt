@@ -3,7 +3,6 @@ pub mod Refusals
 pub mod Fields
 pub mod Rules
 pub mod Checks
-pub mod Reading
 pub mod Meaning
 pub mod Deserved
 pub mod Examples

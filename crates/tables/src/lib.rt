@@ -5,8 +5,6 @@ ghost use Rattle.tables.specs.Refusals.{numberOf, placeOf, isClean};
 pub mod fields;
 pub mod head;
 pub mod layout;
-pub mod records;
-pub mod rows;
 
 // Sizes in bytes: what stands before the first record, and a section row. A record's size is its layout's.
 pub const HEAD_SIZE: usize = 5;

@@ -1,7 +1,7 @@
 -- `response::stages::after_numbers` meets its contract: a first record whose delays or priority are wrong is refused, and a right one goes on.
 -- Assumes nothing.
 use mathlib.Core.Path.{refl, sym, _∙_}
-use Rattle.tables.proofs.RecordLaws.{delays-in-order}
+use Rattle.reading.proofs.RecordLaws.{delays-in-order}
 use Rattle.response.proofs.OutcomeLaws.{records-refused}
 use Rattle.response.proofs.StageLaws.{sound, first-within, first-is, first-right, first-wrong}
 use borrow.Author.Needs.{needs}

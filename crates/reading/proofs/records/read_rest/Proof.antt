@@ -1,4 +1,4 @@
--- `tables::records::read_rest` meets its contract: each turn takes one record, by the laws of `RecordLaws`, and fills one word of each slice.
+-- `reading::records::read_rest` meets its contract: each turn takes one record, by the laws of `RecordLaws`, and fills one word of each slice.
 -- Assumes nothing.
 use Prim.Native.Nat.{_-_}
 use native.Mathlib.Omega.{arith}
@@ -6,11 +6,11 @@ use mathlib.Core.Path.{sym, _∙_, ap}
 use Rattle.model.specs.Tables.{Task, spreadOf}
 use Rattle.model.proofs.Filling.{Filling, filling-one, filling-more, filling-at, filled-word}
 use Rattle.model.proofs.Tests.{refuted, confirmed}
 use Rattle.tables.specs.Layout.{priorityIn, periodIn, costIn, deadlineIn, spreadIn, latestIn}
 use Rattle.tables.proofs.FieldLaws.{clean-only}
-use Rattle.tables.proofs.RecordLaws.{Reading, reading-one, record-there, start-near, task-is, delays-in-order, numbers-wrong, rest-wrong, reading-more, reading-all}
-use Rattle.tables.proofs.records.read_rest.Statement.{statement}
-use Rattle.tables.proofs.records.read_rest.Tie as tie
+use Rattle.reading.proofs.RecordLaws.{Reading, reading-one, record-there, start-near, task-is, delays-in-order, numbers-wrong, rest-wrong, reading-more, reading-all}
+use Rattle.reading.proofs.records.read_rest.Statement.{statement}
+use Rattle.reading.proofs.records.read_rest.Tie as tie
 
 abbrev Inv-loop : tie.InvT-loop
 Inv-loop table layout n priorities₀ periods₀ costs₀ deadlines₀ spreads₀ latest₀ at₀ i₀ priorities periods costs deadlines spreads latest at i =

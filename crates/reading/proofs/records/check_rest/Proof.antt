@@ -1,19 +1,19 @@
--- `tables::records::check_rest` meets its contract: at each return the tests that led there say which field is the first that is wrong.
+-- `reading::records::check_rest` meets its contract: at each return the tests that led there say which field is the first that is wrong.
 -- Assumes nothing.
 use mathlib.Core.Path.{sym, _∙_, ap}
 use mathlib.Core.List.{[], _∷_}
 use Prim.Native.Nat.{ℕ, _+_}
 use Rattle.model.proofs.Tests.{refuted, confirmed}
 use Rattle.tables.specs.declared.Check.the-variants.{Refused}
 use Rattle.tables.specs.declared.Refusal.the-variants.{NumberOutOfRange}
 use Rattle.tables.specs.Fields.{earliestField, latestField, priorityField}
 use Rattle.tables.specs.Refusals.{offset}
 use Rattle.tables.specs.Rules.{recordTest}
-use Rattle.tables.specs.Reading.{falling, restOrder}
+use Rattle.reading.specs.Reading.{falling, restOrder}
 use Rattle.tables.proofs.FieldLaws.{tests-fail, tests-pass}
 use borrow.Author.Needs.{needs}
-use Rattle.tables.proofs.records.check_rest.Statement.{statement}
-use Rattle.tables.proofs.records.check_rest.Tie as tie
+use Rattle.reading.proofs.records.check_rest.Statement.{statement}
+use Rattle.reading.proofs.records.check_rest.Tie as tie
 
 within-requires : tie.Need-within-requires
 within-requires c κs = search needs

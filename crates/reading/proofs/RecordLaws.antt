@@ -11,21 +11,21 @@ use Rattle.model.specs.Tables.{Task}
 use Rattle.model.specs.Search.{firstOf}
 use Rattle.model.proofs.First as first-laws
 use Rattle.model.proofs.Tasks.{same-task}
 use Rattle.tables.specs.declared.layout.Layout.{Layout}
-use Rattle.tables.specs.declared.records.TaskRecord.{TaskRecord}
-use Rattle.tables.specs.declared.records.Delays.{Delays}
+use Rattle.reading.specs.declared.records.TaskRecord.{TaskRecord}
+use Rattle.reading.specs.declared.records.Delays.{Delays}
 use Rattle.tables.specs.declared.Check.{Check}
 use Rattle.tables.specs.declared.Check.the-variants.{Clean, Refused}
 use Rattle.tables.specs.declared.Refusal.{Refusal}
-use Rattle.tables.specs.Layout.{wordAt, layoutOf, taskCount, recordStart, recordFrom, taskAt, priorityIn}
+use Rattle.tables.specs.Layout.{wordAt, layoutOf, taskCount, recordStart, recordFrom, taskAt, priorityIn, Sound}
 use Rattle.tables.specs.Refusals.{isClean, orElse, firstIn, fieldsCheck}
 use Rattle.tables.specs.Fields.{recordRefusal, refusalInRecord}
 use Rattle.tables.specs.Rules.{priorityFits, recordTest}
 use Rattle.tables.specs.Checks.{recordCheck, recordsCheck, recordsRead}
-use Rattle.tables.specs.Reading.{Sound, RecordsFit, NumbersRead, DelaysRead, taskFrom, falling, numberOrder, restOrder, restTask, numbersFault, restFault}
+use Rattle.reading.specs.Reading.{RecordsFit, NumbersRead, DelaysRead, taskFrom, falling, numberOrder, restOrder, restTask, numbersFault, restFault}
 use Rattle.tables.proofs.LayoutLaws.{next-start, record-inside, start-small}
 use Rattle.tables.proofs.FieldLaws.{clean-only, stops-at, goes-on, goes-through, stops-here, fields-split, tests-passed}
 use Rattle.tables.proofs.MeaningLaws.{between-means}
 
 -- what each step looks at is what it finds
 numbers-same : (r : TaskRecord) (t : Task) (inOrder : Bool) (layout : Layout) (start : ℕ) → r .period .0 ≡ t .period → r .cost .0 ≡ t .cost →

@@ -1,16 +1,16 @@
--- `tables::rows::check` meets its contract: at each return the tests that led there say which field is the first that is wrong.
+-- `reading::rows::check` meets its contract: at each return the tests that led there say which field is the first that is wrong.
 -- Assumes nothing.
 use borrow.Author.Tests.{le-ltb, lt-ltb}
 use mathlib.Core.Path.{sym, _∙_, ap}
 use mathlib.Core.List.{[], _∷_}
 use lib.Dec.{ltb}
 use Rattle.model.proofs.Tests.{refuted, confirmed}
 use Rattle.tables.specs.Fields.{placeField, semaphoreField, longestField, orderField, rowOrder}
 use Rattle.tables.specs.Rules.{between, rowTest}
 use Rattle.tables.proofs.FieldLaws.{tests-fail, tests-pass}
 use borrow.Author.Needs.{needs}
-use Rattle.tables.proofs.rows.check.Statement.{statement}
-use Rattle.tables.proofs.rows.check.Tie as tie
+use Rattle.reading.proofs.rows.check.Statement.{statement}
+use Rattle.reading.proofs.rows.check.Tie as tie
 
 add-t8 : tie.Need-add-t8
 add-t8 c = search needs

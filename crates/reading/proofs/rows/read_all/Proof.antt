@@ -1,4 +1,4 @@
--- `tables::rows::read_all` meets its contract: each turn takes one row, by the laws of `RowLaws`, and fills one word of each slice.
+-- `reading::rows::read_all` meets its contract: each turn takes one row, by the laws of `RowLaws`, and fills one word of each slice.
 -- Assumes nothing.
 use Prim.Native.Nat.{_-_}
 use native.Mathlib.Omega.{arith}
@@ -6,10 +6,10 @@ use mathlib.Core.Path.{ap}
 use borrow.Author.Needs.{needs}
 use Rattle.model.specs.Tables.{Row}
 use Rattle.model.proofs.Filling.{Filling, filling-none, filling-more, filling-at}
 use Rattle.tables.specs.Layout.{placeIn, semaphoreIn, longestIn}
-use Rattle.tables.proofs.RowLaws.{Scanning, scanning-none, row-near, as-row, row-wrong, scanning-more, scanning-all}
-use Rattle.tables.proofs.rows.read_all.Statement.{statement}
-use Rattle.tables.proofs.rows.read_all.Tie as tie
+use Rattle.reading.proofs.RowLaws.{Scanning, scanning-none, row-near, as-row, row-wrong, scanning-more, scanning-all}
+use Rattle.reading.proofs.rows.read_all.Statement.{statement}
+use Rattle.reading.proofs.rows.read_all.Tie as tie
 
 abbrev Inv-loop : tie.InvT-loop
 Inv-loop table n m costs places₀ semaphores₀ longest₀ before₀ at₀ k₀ places semaphores longest before at k =

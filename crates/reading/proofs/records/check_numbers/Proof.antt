@@ -1,15 +1,15 @@
--- `tables::records::check_numbers` meets its contract: at each return the tests that led there say which field is the first that is wrong.
+-- `reading::records::check_numbers` meets its contract: at each return the tests that led there say which field is the first that is wrong.
 -- Assumes nothing.
 use mathlib.Core.Path.{sym}
 use mathlib.Core.List.{[], _∷_}
 use Rattle.model.proofs.Tests.{refuted, confirmed}
 use Rattle.tables.specs.Fields.{periodField, costField, deadlineField}
 use Rattle.tables.specs.Rules.{recordTest}
-use Rattle.tables.specs.Reading.{numberOrder}
+use Rattle.reading.specs.Reading.{numberOrder}
 use Rattle.tables.proofs.FieldLaws.{tests-fail, tests-pass}
 use borrow.Author.Needs.{needs}
-use Rattle.tables.proofs.records.check_numbers.Statement.{statement}
-use Rattle.tables.proofs.records.check_numbers.Tie as tie
+use Rattle.reading.proofs.records.check_numbers.Statement.{statement}
+use Rattle.reading.proofs.records.check_numbers.Tie as tie
 
 within-requires : tie.Need-within-requires
 within-requires c κs = search needs

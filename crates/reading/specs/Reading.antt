@@ -8,17 +8,17 @@ use lib.ListN.{length, getD}
 use lib.Dec.{leb, ltb}
 use Rattle.model.specs.Choice.{both}
 use Rattle.model.specs.Tables.{Task, Row}
 use Rattle.tables.specs.declared.layout.Layout.{Layout}
-use Rattle.tables.specs.declared.records.TaskRecord.{TaskRecord}
-use Rattle.tables.specs.declared.records.Delays.{Delays}
-use Rattle.tables.specs.declared.rows.RowRecord.{RowRecord}
+use Rattle.reading.specs.declared.records.TaskRecord.{TaskRecord}
+use Rattle.reading.specs.declared.records.Delays.{Delays}
+use Rattle.reading.specs.declared.rows.RowRecord.{RowRecord}
 use Rattle.tables.specs.Fields.{RecordField, periodField, costField, deadlineField, earliestField, latestField, priorityField, recordRefusal, rowOrder, rowRefusal}
 use Rattle.tables.specs.Refusals.{fieldsCheck}
 use Rattle.tables.specs.Rules.{recordTest, rowTest}
 use Rattle.tables.specs.declared.Check.{Check}
 use Rattle.tables.specs.declared.Check.the-variants.{Clean}
 use Rattle.tables.specs.Checks.{recordCheck}
-use Rattle.tables.specs.Layout.{byteAt, wordAt, noVersion, layoutOf, taskCount, rowCount, recordStart, rowStart, priorityAt, periodAt, costAt, deadlineAt, earliestFrom, latestAt, priorityIn, periodIn, costIn, deadlineIn, spreadIn, latestIn}
+use Rattle.tables.specs.Layout.{byteAt, wordAt, noVersion, layoutOf, taskCount, rowCount, recordStart, rowStart, priorityAt, periodAt, costAt, deadlineAt, earliestFrom, latestAt, priorityIn, periodIn, costIn, deadlineIn, spreadIn, latestIn, Sound}
 
 -- the task of a record in the code and of its delays
 abbrev pub taskFrom : TaskRecord → Delays → Task
@@ -43,14 +43,6 @@ pub record NumbersRead (bytes : List ℕ) (start : ℕ) (r : TaskRecord) : Type 
 pub record DelaysRead (layout : Layout) (bytes : List ℕ) (start : ℕ) (d : Delays) : Type 0 where
   pub earliest : d .earliest .0 ≡ earliestFrom (layout .delays) bytes start
   pub latest : d .latest .0 ≡ wordAt bytes (start + latestAt (layout .delays))
-
--- what every layout that the reader knows keeps to: the fields end within the record, and records and tasks are not too many for the
--- sums that are made of them
-pub record Sound (layout : Layout) : Type 0 where
-  pub fields : 17 ≤ layout .size
-  pub latestInside : latestAt (layout .delays) + 4 ≤ layout .size
-  pub small : layout .size ≤ 21
-  pub few : layout .most ≤ 32
 
 -- a priority of at least 1, and below the one before
 abbrev pub falling : ℕ → ℕ → Bool

@@ -1,13 +1,13 @@
--- `tables::records::read_delays` meets its contract, for either form of the delays.
+-- `reading::records::read_delays` meets its contract, for either form of the delays.
 -- Assumes nothing.
 use native.Mathlib.Omega.{arith}
 use Prim.Native.Nat.{_+_}
 use mathlib.Core.Path.{sym, _∙_, ap}
 use Rattle.tables.specs.declared.layout.DelayFields.{DelayFields}
 use Rattle.tables.specs.Layout.{wordAt, earliestFrom, latestAt}
 use borrow.Author.Needs.{needs}
-use Rattle.tables.proofs.records.read_delays.Statement.{statement}
-use Rattle.tables.proofs.records.read_delays.Tie as tie
+use Rattle.reading.proofs.records.read_delays.Statement.{statement}
+use Rattle.reading.proofs.records.read_delays.Tie as tie
 
 enum-told : tie.Need-enum-told
 enum-told c = search needs

@@ -1,11 +1,11 @@
--- `tables::records::read` meets its contract, field by field.
+-- `reading::records::read` meets its contract, field by field.
 -- Assumes nothing.
 use mathlib.Core.Path.{refl}
 use native.Mathlib.Omega.{arith}
 use Prim.Native.Nat.{_+_}
 use borrow.Author.Needs.{needs}
-use Rattle.tables.proofs.records.read.Statement.{statement}
-use Rattle.tables.proofs.records.read.Tie as tie
+use Rattle.reading.proofs.records.read.Statement.{statement}
+use Rattle.reading.proofs.records.read.Tie as tie
 
 add-t3 : tie.Need-add-t3
 add-t3 c = search needs

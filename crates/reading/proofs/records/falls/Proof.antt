@@ -1,9 +1,9 @@
--- `tables::records::falls` meets its contract, by its two tests.
+-- `reading::records::falls` meets its contract, by its two tests.
 -- Assumes nothing.
 use native.Mathlib.Omega.{arith}
 use borrow.Author.Tests.{le-leb, lt-leb}
-use Rattle.tables.proofs.records.falls.Statement.{statement}
-use Rattle.tables.proofs.records.falls.Tie as tie
+use Rattle.reading.proofs.records.falls.Statement.{statement}
+use Rattle.reading.proofs.records.falls.Tie as tie
 
 returns : tie.Need-returns
 returns c = rw (lt-leb 1 (c .before .args .priority) (omega (arith, c .if1 .taken)))

@@ -1,12 +1,12 @@
--- `tables::rows::read` meets its contract, field by field.
+-- `reading::rows::read` meets its contract, field by field.
 -- Assumes nothing.
 use native.Mathlib.Omega.{arith}
 use Prim.Native.Nat.{_+_}
 use mathlib.Core.Path.{refl}
 use Rattle.model.proofs.Tasks.{same-row}
 use borrow.Author.Needs.{needs}
-use Rattle.tables.proofs.rows.read.Statement.{statement}
-use Rattle.tables.proofs.rows.read.Tie as tie
+use Rattle.reading.proofs.rows.read.Statement.{statement}
+use Rattle.reading.proofs.rows.read.Tie as tie
 
 add-count : tie.Need-add-count
 add-count c = search needs

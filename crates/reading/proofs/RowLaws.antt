@@ -16,19 +16,19 @@ use Rattle.model.specs.Tables.{Row}
 use Rattle.model.specs.Search.{firstOf}
 use Rattle.model.proofs.Tests.{ltb?}
 use Rattle.model.proofs.First as first-laws
 use Rattle.tables.specs.declared.layout.Layout.{Layout}
 use Rattle.tables.specs.declared.Check.{Check}
 use Rattle.tables.specs.declared.Check.the-variants.{Clean, Refused}
 use Rattle.tables.specs.declared.Refusal.{Refusal}
-use Rattle.tables.specs.Layout.{layoutOf, taskCount, rowCount, recordStart, rowStart, rowFrom, rowAt, costIn, placeIn, semaphoreIn}
+use Rattle.tables.specs.Layout.{layoutOf, taskCount, rowCount, recordStart, rowStart, rowFrom, rowAt, costIn, placeIn, semaphoreIn, Sound}
 use Rattle.tables.specs.Refusals.{isClean, unless, orElse, firstIn, fieldsCheck}
 use Rattle.tables.specs.Fields.{rowOrder, rowRefusal}
 use Rattle.tables.specs.Rules.{between, rowInOrder, rowAfter, rowTest}
 use Rattle.tables.specs.Checks.{rowCheck, rowsCheck, rowsRead}
-use Rattle.tables.specs.Reading.{Sound, RowsFit, rowKey, rowFault}
+use Rattle.reading.specs.Reading.{RowsFit, rowKey, rowFault}
 use Rattle.tables.proofs.LayoutLaws.{start-small}
 use Rattle.tables.proofs.FieldLaws.{stops-at, goes-on, goes-through}
 use Rattle.tables.proofs.MeaningLaws.{between-means}
 
 -- the key of the row before row k: 0 before the first, which is below every key
 pub keyBefore : List ℕ → ℕ → ℕ
