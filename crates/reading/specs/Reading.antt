@@ -72,8 +72,8 @@ abbrev pub restFault : Delays → ℕ → Layout → ℕ → ℕ → Check
 restFault delays priority layout start above =
     fieldsCheck (recordTest (restTask delays priority) (falling above priority)) (recordRefusal layout start) restOrder
 
--- the layout is that of the bytes; n is the number of records, 1 to 32; the first is clean and stands in word 0 of each slice; the records end within the
--- bytes, and each slice has room for them
+-- the layout is that of the bytes; n is the number of records, 1 to 32; the first is clean and stands in word 0 of each slice; the
+-- records end within the bytes, and each slice has room for them
 pub record RecordsFit (bytes : List ℕ) (layout : Layout) (n : ℕ) (priorities periods costs deadlines spreads latest : List ℕ) : Type 0 where
   pub decided : layout ≡ layoutOf bytes
   pub sound : Sound layout
@@ -95,8 +95,8 @@ pub record RecordsFit (bytes : List ℕ) (layout : Layout) (n : ℕ) (priorities
   pub spreadsLong : n ≤ length spreads
   pub latestLong : n ≤ length latest
 
--- the layout is that of the bytes, n and m are the numbers of records and rows, the rows end within the bytes, each slice has room for them, and the costs are those
--- of the records
+-- the layout is that of the bytes, n and m are the numbers of records and rows, the rows end within the bytes, each slice has room for
+-- them, and the costs are those of the records
 pub record RowsFit (bytes : List ℕ) (layout : Layout) (n m : ℕ) (costs places semaphores longest : List ℕ) : Type 0 where
   pub decided : layout ≡ layoutOf bytes
   pub sound : Sound layout

@@ -6,25 +6,34 @@ use native.Mathlib.Nat.{mul-le-mul-left, mul-le-mul}
 use mathlib.Core.Path.{_≡_, _∙_, ap}
 use mathlib.Core.Bool.{true}
 use mathlib.Core.List.{List}
-use mathlib.Core.Logic.{inl, inr}
+use mathlib.Core.Logic.{_⊎_, inl, inr}
 use Rattle.model.proofs.Tests.{eqb?, clash}
 use Rattle.tables.specs.declared.layout.Layout.{Layout}
 use Rattle.tables.specs.Layout.{versionOne, versionTwo, noVersion, versionOf, layoutFor, layoutOf, recordStart, Sound}
 use Rattle.tables.specs.Meaning.{VersionKnown}
 
--- a layout is known where the version is 1 or 2, and only there
-pub known-means : (bytes : List ℕ) → layoutOf bytes .known ≡ true → VersionKnown bytes
+-- the layout of any bytes is one of three
+layout-cases : (bytes : List ℕ) →
+    ((versionOf bytes ≡ 1) × (layoutOf bytes ≡ versionOne))
+    ⊎ (((versionOf bytes ≡ 2) × (layoutOf bytes ≡ versionTwo)) ⊎ (layoutOf bytes ≡ noVersion))
 unfolding layoutFor
-known-means bytes p =
+layout-cases bytes =
     elim (eqb? (versionOf bytes) 1) [
-      | inl one ↦ inl (one .1)
+      | inl one ↦ inl (one .1, rw (one .0))
       | inr other ↦
           elim (eqb? (versionOf bytes) 2) [
-            | inl two ↦ inr (two .1)
-            | inr none ↦
-                let unknown : layoutOf bytes ≡ noVersion = rw (other .0, none .0) in
-                absurd (clash _ p (ap (λ (l : Layout). l .known) unknown))
+            | inl two ↦ inr (inl (two .1, rw (other .0, two .0)))
+            | inr none ↦ inr (inr (rw (other .0, none .0)))
           ]
+    ]
+
+-- a layout is known where the version is 1 or 2, and only there
+pub known-means : (bytes : List ℕ) → layoutOf bytes .known ≡ true → VersionKnown bytes
+known-means bytes p =
+    elim (layout-cases bytes) [
+      | inl one ↦ inl (one .0)
+      | inr (inl two) ↦ inr (two .0)
+      | inr (inr none) ↦ absurd (clash _ p (ap (λ (l : Layout). l .known) none))
     ]
 
 pub known-holds : (bytes : List ℕ) → VersionKnown bytes → layoutOf bytes .known ≡ true
@@ -40,15 +49,11 @@ layout-sound bytes (inr two) = rw two (record { fields = omega arith; latestInsi
 
 -- no version's records are longer
 pub size-small : (bytes : List ℕ) (layout : Layout) → layout ≡ layoutOf bytes → layout .size ≤ 21
-unfolding layoutFor
 size-small bytes layout decided =
-    elim (eqb? (versionOf bytes) 1) [
-      | inl one ↦ let is : layoutOf bytes ≡ versionOne = rw (one .0) in rw (decided ∙ is) (omega arith)
-      | inr other ↦
-          elim (eqb? (versionOf bytes) 2) [
-            | inl two ↦ let is : layoutOf bytes ≡ versionTwo = rw (other .0, two .0) in rw (decided ∙ is) (omega arith)
-            | inr none ↦ let is : layoutOf bytes ≡ noVersion = rw (other .0, none .0) in rw (decided ∙ is) (omega arith)
-          ]
+    elim (layout-cases bytes) [
+      | inl one ↦ rw (decided ∙ one .1) (omega arith)
+      | inr (inl two) ↦ rw (decided ∙ two .1) (omega arith)
+      | inr (inr none) ↦ rw (decided ∙ none) (omega arith)
     ]
 
 module _ (layout : Layout) where

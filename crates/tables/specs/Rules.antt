@@ -30,7 +30,8 @@ unfoldable pub priorityFits : List ℕ → ℕ → Bool
 priorityFits bytes i =
     both (leb 1 (taskAt bytes i .priority)) (either (eqb i 0) (ltb (taskAt bytes i .priority) (taskAt bytes (i - 1) .priority)))
 
--- "T and C are 1 to 1,000,000. D is 1 to T. J is 0 to 1,000,000."; "earliest at most latest, both at most 1,000,000"; and the priority, whose test needs the record before
+-- "T and C are 1 to 1,000,000. D is 1 to T. J is 0 to 1,000,000."; "earliest at most latest, both at most 1,000,000"; and
+-- the priority, whose test needs the record before
 unfoldable pub recordTest : Task → Bool → RecordField → Bool
 recordTest t inOrder periodField = between 1 1000000 (t .period)
 recordTest t inOrder costField = between 1 1000000 (t .cost)
