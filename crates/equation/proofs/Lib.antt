@@ -3,5 +3,6 @@ pub mod DemandLaws
 pub mod AnswerLaws
 pub mod SequenceLaws
 pub mod SliceLaws
-pub mod SolverLaws
 pub mod Laws
+pub mod StartLaws
+pub mod SolverLaws

@@ -20,6 +20,7 @@ use Rattle.equation.specs.Solver.{Solvable, SolvedBy}
 use Rattle.equation.proofs.DemandLaws.{at-least-base}
 use Rattle.equation.proofs.Laws.{answerMeans, sequenceReaches, roundsBound}
 use Rattle.equation.proofs.SequenceLaws.{never-falls, start-rises}
+use Rattle.equation.proofs.StartLaws.{solution-smallest, all-late}
 
 module _ (base : ℕ) (loads : List Load) (start late deadline : ℕ) where
   -- before round k: x is the term before it, no round was the last, and each has gained at least one tick
@@ -36,29 +37,12 @@ module _ (base : ℕ) (loads : List Load) (start late deadline : ℕ) where
   turn-first a h =
       record { asked = a; here = refl; one = omega arith; inTime = h; climbed = omega arith; on = λ v l m. absurd (omega arith) }
 
-  -- a term that would be late leaves every solution late
-  all-late : (k : ℕ) → Solvable base loads start late deadline → deadline < term base loads start k + late →
-      answer base loads late deadline ≡ 0
-  all-late k a h =
-      elim (decLe 1 (answer base loads late deadline)) [
-        | yes p ↦
-            let s = answerMeans .positive base loads late deadline p in
-            absurd
-            (omega (
-              arith,
-              s .2,
-              sequenceReaches .passesNone base loads start (s .0) k
-                  (a .notAbove (s .0) (s .1 .positive) (s .1 .solution)) (s .1 .solution),
-            ))
-        | no p ↦ omega arith
-      ]
-
   -- a start that is late
   pub start-late : Solvable base loads start late deadline → deadline < start + late → SolvedBy base loads start late deadline 0 1
   unfolding term
   start-late a h =
       record {
-        response = sym (all-late 0 a h);
+        response = sym (all-late base loads (a .basePositive) start late deadline 0 (a .notAbove) h);
         rounds = sym (roundsBound .otherwise base loads start late deadline (a .basePositive) (a .notAbove) h);
       }
 
@@ -84,7 +68,7 @@ module _ (base : ℕ) (loads : List Load) (start late deadline : ℕ) where
     turn-late n e h =
         let late-now : deadline < term base loads start k + late = omega (arith, next) in
         record {
-          response = sym (all-late k (t .asked) late-now);
+          response = sym (all-late base loads (t .asked .basePositive) start late deadline k (t .asked .notAbove) late-now);
           rounds =
               last-round
               (either-right (eqb (term base loads start k) (term base loads start (k - 1))) _
@@ -94,12 +78,9 @@ module _ (base : ℕ) (loads : List Load) (start late deadline : ℕ) where
     -- an equal term solves the equation, and no solution lies below it
     equal-smallest : demand base loads x ≡ x → IsSmallest base loads x
     equal-smallest e =
-        record {
-          positive = omega (arith, at-least-base base loads x, t .asked .basePositive);
-          solution = e;
-          least = λ v one s.
-              rw (t .here) (sequenceReaches .passesNone base loads start v (k - 1) (t .asked .notAbove v one s) s);
-        }
+        subst (IsSmallest base loads) (sym (t .here))
+        (solution-smallest base loads (t .asked .basePositive) start (k - 1) (t .asked .notAbove)
+        (subst (λ (y : ℕ). demand base loads y ≡ y) (t .here) e))
 
     pub turn-found : (n : ℕ) → n ≡ demand base loads x → n ≡ x → SolvedBy base loads start late deadline (x + late) k
     turn-found n is same =

@@ -1,11 +1,31 @@
 // Joseph and Pandya's equation, over numbers alone: no bytes, no tables, no tasks.
 ghost use mathlib.Core.Path.{_≡_};
-ghost use Prim.Native.Nat.{_≤_};
+ghost use Prim.Native.Nat.{_+_, _≤_};
 ghost use Rattle.equation.specs.Rounding.{ceilDiv};
 ghost use Rattle.equation.specs.Demand as spec;
 ghost use Rattle.equation.specs.Slices.{loads, LoadsFit};
 ghost use Rattle.equation.specs.Solver.{Solvable, SolvedBy};
+ghost use Rattle.equation.specs.Starts.{firstTerm};
 use model::Ticks;
+
+// Where the written sequence starts (document 02, L5). Both starts lead to the same answers; the rounds differ.
+pub enum Start {
+    // The default: the task's cost and blocking, and one cost of every more urgent task, as source document 002 has it.
+    EveryCost,
+    // The task's cost and blocking alone, as source document 000 has it: document 01's rounds.
+    OwnCost,
+}
+
+// The first term from a start: `base` is the task's cost and blocking, `urgent` one cost of every more urgent task.
+pub fn first_term(start: Start, base: Ticks, urgent: Ticks) -> Ticks
+    requires { ⌜ base .0 + urgent .0 ≤ 1000000000 ⌝ }
+    ensures { λ r. ⌜ r .0 ≡ firstTerm start (base .0) (urgent .0) ⌝ }
+{
+    match start {
+        Start::EveryCost => Ticks(base.0 + urgent.0),
+        Start::OwnCost => base,
+    }
+}
 
 // n / d rounded up: no divide where n is at most d, one elsewhere (document 02, L2), and right at 0 too.
 pub fn div_up(n: Ticks, d: Ticks) -> u32

@@ -1,0 +1,176 @@
+-- Every start that is above no solution gives the answer, and a later one takes no more rounds: for any list of loads.
+-- Assumes nothing.
+use Prim.Native.Nat.{ℕ, zero, suc, _+_, _-_, _≤_, _<_}
+use native.Mathlib.Omega.{arith}
+use native.Mathlib.Decide.{decLe}
+use mathlib.Core.Path.{_≡_, refl, sym, _∙_, ap}
+use mathlib.Core.Bool.{true, false}
+use mathlib.Core.Logic.{_⊎_, inl, inr}
+use mathlib.Core.List.{List}
+use lib.Dec.{eqb, ltb}
+use borrow.Author.Tests.{eqb-true, eqb-false, ltb-true, ltb-false}
+use Rattle.model.specs.Lists.{sumOf}
+use Rattle.model.specs.Search.{firstFrom}
+use Rattle.model.specs.Tables.{Load}
+use Rattle.model.proofs.Tests.{bool?, not-either, either-true}
+use Rattle.equation.specs.declared.Start.{Start}
+use Rattle.equation.specs.declared.Start.the-variants.{EveryCost, OwnCost}
+use Rattle.equation.specs.Demand.{demand}
+use Rattle.equation.specs.Answer.{answer}
+use Rattle.equation.specs.Sequence.{term, rounds}
+use Rattle.equation.specs.Laws.{IsSmallest, NotAbove}
+use Rattle.equation.specs.Starts.{startFrom, PeriodsLow, answerFrom, AnyStart, BothStarts, BoundReached}
+use Rattle.equation.proofs.DemandLaws as demands
+use Rattle.equation.proofs.AnswerLaws.{answer-at, answer-late}
+use Rattle.equation.proofs.Laws.{answerMeans, sequenceReaches, roundsMean, roundsBound}
+
+module _ (base : ℕ) (loads : List Load) (b : 1 ≤ base) where
+  -- every x behind the start is at least base
+  later-positive : (start k : ℕ) → 1 ≤ k → 1 ≤ term base loads start k
+  unfolding term
+  later-positive start zero h = absurd (omega arith)
+  later-positive start (suc k) h = omega (arith, demands.at-least-base base loads (term base loads start k))
+
+  -- an x that solves the equation is the smallest that does
+  pub solution-smallest : (start k : ℕ) → NotAbove base loads start → demand base loads (term base loads start k) ≡ term base loads start k →
+      IsSmallest base loads (term base loads start k)
+  solution-smallest start k above e =
+      record {
+        positive = omega (arith, demands.at-least-base base loads (term base loads start k));
+        solution = e;
+        least = λ v one s. sequenceReaches .passesNone base loads start v k (above v one s) s;
+      }
+
+  -- and so is an x that is the one before
+  equal-smallest : (start k : ℕ) → NotAbove base loads start → 1 ≤ k → term base loads start k ≡ term base loads start (k - 1) →
+      IsSmallest base loads (term base loads start k)
+  unfolding term
+  equal-smallest start zero above one e = absurd (omega arith)
+  equal-smallest start (suc k) above one e =
+      let less : suc k - 1 ≡ k = omega arith in
+      solution-smallest start (suc k) above (ap (demand base loads) (e ∙ ap (term base loads start) less))
+
+  -- an x that is late leaves every solution late
+  pub all-late : (start late deadline k : ℕ) → NotAbove base loads start → deadline < term base loads start k + late →
+      answer base loads late deadline ≡ 0
+  all-late start late deadline k above h =
+      elim (decLe 1 (answer base loads late deadline)) [
+        | yes p ↦
+            let s = answerMeans .positive base loads late deadline p in
+            absurd
+            (omega (
+              arith,
+              s .2,
+              sequenceReaches .passesNone base loads start (s .0) k
+                  (above (s .0) (s .1 .positive) (s .1 .solution)) (s .1 .solution),
+            ))
+        | no p ↦ omega arith
+      ]
+
+  -- from a later start no x is smaller
+  terms-above : (start later k : ℕ) → start ≤ later → term base loads start k ≤ term base loads later k
+  unfolding term
+  terms-above start later zero h = h
+  terms-above start later (suc k) h =
+      demands.monotone base loads (term base loads start k) (term base loads later k) (terms-above start later k h)
+
+  -- the rounds before the last, said without tests
+  pub earlier-goes-on : (start late deadline k : ℕ) → 1 ≤ k → k < rounds base loads start late deadline →
+      (¬ (term base loads start k ≡ term base loads start (k - 1))) × (term base loads start k + late ≤ deadline)
+  earlier-goes-on start late deadline k low high =
+      let n = not-either (eqb (term base loads start k) (term base loads start (k - 1))) _
+      (roundsMean .first base loads start late deadline k low high) in
+      (eqb-false _ _ (n .0), ltb-false _ _ (n .1))
+
+  module _ (start late deadline : ℕ) (above : NotAbove base loads start) where
+    -- the last round, said without tests
+    pub last-stops : (term base loads start (rounds base loads start late deadline) ≡ term base loads start (rounds base loads start late deadline - 1))
+        ⊎ (deadline < term base loads start (rounds base loads start late deadline) + late)
+    last-stops =
+        let k = rounds base loads start late deadline in
+        elim (bool? (eqb (term base loads start k) (term base loads start (k - 1)))) [
+          | inl y ↦ inl (eqb-true _ _ y)
+          | inr n ↦
+              inr
+              (ltb-true _ _
+              (either-true (eqb (term base loads start k) (term base loads start (k - 1))) _
+              (roundsMean .stop base loads start late deadline b above) n))
+        ]
+
+    -- what the sequence stops at is the smallest solution, or late
+    answer-from : answerFrom base loads start late deadline ≡ answer base loads late deadline
+    answer-from =
+        let k = rounds base loads start late deadline in
+        let one = roundsBound .positive base loads start late deadline b above in
+        let x = later-positive start k one in
+        elim (decLe (term base loads start k + late) deadline) [
+          | yes h ↦
+              elim last-stops [
+                | inl e ↦
+                    answer-at late deadline (term base loads start k) x h
+                    ∙ sym (answerMeans .answered base loads late deadline (term base loads start k) (equal-smallest start k above one e) h)
+                | inr l ↦ absurd (omega arith)
+              ]
+          | no h ↦
+              answer-late late deadline (term base loads start k) x (omega arith)
+              ∙ sym (all-late start late deadline k above (omega arith))
+        ]
+
+    -- From a later start the sequence has stopped by then: it is late where this one is, and at the solution where this one is.
+    fewer : (later : ℕ) → NotAbove base loads later → start ≤ later → rounds base loads later late deadline ≤ rounds base loads start late deadline
+    fewer later aboveLater h =
+        elim (decLe (rounds base loads later late deadline) (rounds base loads start late deadline)) [
+          | yes p ↦ p
+          | no p ↦ absurd (longer p)
+        ]
+      where
+        longer : ¬ (rounds base loads later late deadline ≤ rounds base loads start late deadline) → ⊥
+        longer p =
+            let k = rounds base loads start late deadline in
+            let one = roundsBound .positive base loads start late deadline b above in
+            let on = earlier-goes-on later late deadline k one (omega arith) in
+            elim last-stops [
+              | inl e ↦
+                  let s = equal-smallest start k above one e in
+                  let w = term base loads start k in
+                  let low = aboveLater w (s .positive) (s .solution) in
+                  on .0
+                  (omega (
+                    arith,
+                    e,
+                    terms-above start later k h,
+                    terms-above start later (k - 1) h,
+                    sequenceReaches .passesNone base loads later w k low (s .solution),
+                    sequenceReaches .passesNone base loads later w (k - 1) low (s .solution),
+                  ))
+              | inr l ↦ omega (arith, l, on .1, terms-above start later k h)
+            ]
+
+pub any-start : AnyStart
+any-start =
+    record {
+      answers = λ base loads start late deadline b above. answer-from base loads b start late deadline above;
+      fewer = λ base loads start later late deadline b above aboveLater h. fewer base loads b start late deadline above later aboveLater h;
+    }
+
+-- a solution holds one cost of every load, and more than base
+not-above : (start : Start) (base : ℕ) (loads : List Load) → PeriodsLow loads → NotAbove base loads (startFrom start base loads)
+unfolding demand
+not-above EveryCost base loads periods w one e = omega (arith, e, demands.costs-once loads w one periods)
+not-above OwnCost base loads periods w one e = omega (arith, demands.at-least-base base loads w)
+
+pub both-starts : BothStarts
+both-starts =
+    record {
+      notAbove = not-above;
+      answers = λ start base loads late deadline b periods.
+          any-start .answers base loads (startFrom start base loads) late deadline b (not-above start base loads periods);
+      fewer = λ base loads late deadline b periods.
+          any-start .fewer base loads (startFrom OwnCost base loads) (startFrom EveryCost base loads) late deadline b
+          (not-above OwnCost base loads periods) (not-above EveryCost base loads periods) (omega arith);
+    }
+
+pub bound-reached : BoundReached
+unfolding firstFrom term demand sumOf
+bound-reached EveryCost = refl
+bound-reached OwnCost = refl
