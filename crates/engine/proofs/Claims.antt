@@ -197,7 +197,7 @@ same-check bytes answers rounds h =
     ]
 
 pub playsAsAnalysis : PlaysAsAnalysis
-playsAsAnalysis bytes answers rounds left answersLeft roundsLeft v other o p enough never =
+playsAsAnalysis start bytes answers rounds left answersLeft roundsLeft v other o p enough never =
     go (playCheck bytes (length answers)) refl
   where
     go : (c : Check) → playCheck bytes (length answers) ≡ c → (v ≡ other) × (left ≡ answersLeft)
@@ -205,8 +205,8 @@ playsAsAnalysis bytes answers rounds left answersLeft roundsLeft v other o p eno
         let right = play-right bytes (length answers) e in
         let room : RoomFor bytes (length answers) (length rounds) = record { answersLong = right .1 .answersLong; roundsLong = enough } in
         let equal = playsEquation bytes answers left v o (right .0) (right .1) (right .2) in (
-          equal .resultIs ∙ sym (result-is bytes answers rounds other answersLeft roundsLeft p (right .0) room),
-          equal .answersAre ∙ sym (answers-filled bytes answers rounds other answersLeft roundsLeft p (right .0) room),
+          equal .resultIs ∙ sym (result-is start bytes answers rounds other answersLeft roundsLeft p (right .0) room),
+          equal .answersAre ∙ sym (answers-filled start bytes answers rounds other answersLeft roundsLeft p (right .0) room),
         )
     go (check.Refused r) e =
         elim (play-deserved bytes (length answers) r e) [

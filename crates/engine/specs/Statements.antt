@@ -14,6 +14,7 @@ use Rattle.tables.specs.Meaning.{TableRight, RoomFor}
 use Rattle.tables.specs.Deserved.{Deserved}
 use Rattle.runs.specs.Schedule.{Schedule, LegalSchedule}
 use Rattle.runs.specs.Synchronous.{synchronous}
+use Rattle.equation.specs.declared.Start.{Start}
 use Rattle.response.specs.declared.Verdict.{Verdict}
 use Rattle.response.specs.declared.Verdict.the-variants.{Refused}
 use Rattle.response.specs.Analysis.{answerOf}
@@ -71,11 +72,12 @@ PlaysEquation =
     (bytes answers left : List ℕ) (verdict : Verdict) → Played bytes answers verdict left →
     TableRight bytes → RoomFor bytes (length answers) (length answers) → Plain bytes → AsEquation bytes answers verdict left
 
--- So where the engine does not refuse with 9, it and `analyse`, which is lent room for the rounds too, say and leave the same.
+-- So where the engine does not refuse with 9, it and the analysis, which is lent room for the rounds too, say and leave the same,
+-- whatever start the rounds are from.
 abbrev pub PlaysAsAnalysis : Type 0
 PlaysAsAnalysis =
-    (bytes answers rounds left answersLeft roundsLeft : List ℕ) (verdict other : Verdict) →
-    Played bytes answers verdict left → Outcome bytes answers rounds other answersLeft roundsLeft →
+    (start : Start) (bytes answers rounds left answersLeft roundsLeft : List ℕ) (verdict other : Verdict) →
+    Played bytes answers verdict left → Outcome start bytes answers rounds other answersLeft roundsLeft →
     taskCount bytes ≤ length rounds → ¬ (verdict ≡ Refused NotPlayable) → (verdict ≡ other) × (left ≡ answersLeft)
 
 -- the contract leaves no second answer: the verdict and every word of the slice are determined

@@ -6,19 +6,22 @@ use native.Mathlib.Decide.{decLe}
 use mathlib.Core.Path.{_≡_, refl, sym, _∙_, ap}
 use mathlib.Core.Bool.{true, false}
 use mathlib.Core.Logic.{_⊎_, inl, inr}
-use mathlib.Core.List.{List}
+use mathlib.Core.List.{List, [], _∷_}
+use lib.ListN.{getD}
 use lib.Dec.{eqb, ltb}
 use borrow.Author.Tests.{eqb-true, eqb-false, ltb-true, ltb-false}
-use Rattle.model.specs.Lists.{sumOf}
+use Rattle.model.specs.Lists.{sumOf, tabulate}
 use Rattle.model.specs.Search.{firstFrom}
 use Rattle.model.specs.Tables.{Load}
+use Rattle.model.proofs.Lists.{getD-tabulate, length-tabulate, tabulate-more, sum-append}
 use Rattle.model.proofs.Tests.{bool?, not-either, either-true}
 use Rattle.equation.specs.declared.Start.{Start}
 use Rattle.equation.specs.declared.Start.the-variants.{EveryCost, OwnCost}
 use Rattle.equation.specs.Demand.{demand}
 use Rattle.equation.specs.Answer.{answer}
 use Rattle.equation.specs.Sequence.{term, rounds}
-use Rattle.equation.specs.Laws.{IsSmallest, NotAbove}
+use Rattle.equation.specs.Slices.{loads, loadAt}
+use Rattle.equation.specs.Laws.{IsSmallest, NotAbove, costOf, noLoad}
 use Rattle.equation.specs.Starts.{startFrom, PeriodsLow, answerFrom, AnyStart, BothStarts, BoundReached}
 use Rattle.equation.proofs.DemandLaws as demands
 use Rattle.equation.proofs.AnswerLaws.{answer-at, answer-late}
@@ -174,3 +177,23 @@ pub bound-reached : BoundReached
 unfolding firstFrom term demand sumOf
 bound-reached EveryCost = refl
 bound-reached OwnCost = refl
+
+-- loads made from places have periods where each place has one
+pub periods-low : (load : ℕ → Load) (n : ℕ) → ((k : ℕ) → k < n → 1 ≤ load k .period) → PeriodsLow (tabulate load n)
+periods-low load n each k h =
+    let inside : k < n = omega (arith, length-tabulate load n) in
+    rw (getD-tabulate load n k noLoad inside) (each k inside)
+
+-- the sum of costs runs along from load to load, and fits a word
+module _ (periods costs spreads : List ℕ) where
+  pub costs-none : sumOf costOf (loads periods costs spreads 0) ≡ 0
+  unfolding tabulate sumOf
+  costs-none = refl
+
+  pub costs-more : (k : ℕ) → sumOf costOf (loads periods costs spreads (k + 1)) ≡ sumOf costOf (loads periods costs spreads k) + getD costs k 0
+  unfolding sumOf
+  costs-more k =
+      let l = loadAt periods costs spreads k in
+      ap (sumOf costOf) (tabulate-more (loadAt periods costs spreads) k)
+      ∙ sum-append costOf (loads periods costs spreads k) (l ∷ [])
+      ∙ omega arith

@@ -14,6 +14,7 @@ use Rattle.tables.specs.Layout.{taskCount, rowCount, taskAt, rowAt, tasksOf, ta
 use Rattle.tables.specs.Meaning.{HeadRight, RecordsRight, RowsRight}
 use Rattle.tables.proofs.LayoutLaws.{layout-sound}
 use Rattle.tables.proofs.CheckLaws.{head-right, records-right, rows-right}
+use Rattle.equation.specs.declared.Start.{Start}
 use Rattle.equation.specs.Slices.{loads, loadAt}
 use Rattle.blocking.specs.Ceilings.{section, blockingOf}
 use Rattle.blocking.specs.Slices.{ownerAt, topAt, sectionAt, RowsHeld}
@@ -148,6 +149,7 @@ module _ (bytes : List ℕ) (n m : ℕ) (priorities periods costs deadlines spre
       unfolding answerIn answerOf
       answer-agrees = rw (base-is, loads-agree, latest-is, deadline-is)
 
-      pub rounds-agree : roundsIn (decoded priorities periods costs deadlines spreads latest owners tops longest m) i ≡ roundsOf (tableOf bytes) i
+      pub rounds-agree : (start : Start) →
+          roundsIn start (decoded priorities periods costs deadlines spreads latest owners tops longest m) i ≡ roundsOf start (tableOf bytes) i
       unfolding roundsIn roundsOf
-      rounds-agree = rw (base-is, loads-agree, latest-is, deadline-is)
+      rounds-agree start = rw (base-is, loads-agree, latest-is, deadline-is)

@@ -10,11 +10,11 @@ use mathlib.Core.Logic.{_⊎_, inl, inr}
 use mathlib.Core.List.{List}
 use lib.Dec.{eqb}
 use lib.ListN.{length, getD}
-use borrow.Author.Tests.{eqb-true, eqb-false, ltb-true, ltb-false}
+use borrow.Author.Tests.{eqb-true, eqb-false}
 use Rattle.model.specs.Lists.{filled, tabulate, largestOf, wordOf}
 use Rattle.model.specs.Tables.{Table, taskOf, loadsOf}
 use Rattle.model.proofs.Lists.{getD-filled, getD-filled-past, length-filled}
-use Rattle.model.proofs.Tests.{bool?, clash, not-either, either-true}
+use Rattle.model.proofs.Tests.{bool?, clash}
 use Rattle.model.proofs.First as first-laws
 use Rattle.tables.specs.declared.Refusal.{Refusal}
 use Rattle.tables.specs.declared.Check.{Check}
@@ -24,9 +24,10 @@ use Rattle.tables.specs.Refusals.{at, isClean}
 use Rattle.tables.specs.Checks.{tableCheck}
 use Rattle.tables.specs.Meaning.{TableRight, RoomFor}
 use Rattle.tables.proofs.CheckLaws.{table-deserved, table-gives, table-right, table-clean}
-use Rattle.equation.specs.Sequence.{term, rounds}
-use Rattle.equation.specs.Laws.{NotAbove}
-use Rattle.equation.proofs.Laws.{answerMeans, roundsMean, roundsBound, demandGrows}
+use Rattle.equation.specs.declared.Start.{Start}
+use Rattle.equation.specs.Starts.{PeriodsLow}
+use Rattle.equation.proofs.Laws.{answerMeans, roundsBound}
+use Rattle.equation.proofs.StartLaws.{both-starts, last-stops, earlier-goes-on}
 use Rattle.blocking.specs.Ceilings.{blockingOf, section}
 use Rattle.runs.specs.Jobs.{NoDelay}
 use Rattle.runs.specs.Statement.{Answers, responseOf}
@@ -34,12 +35,12 @@ use Rattle.runs.proofs.Demand3 as runs
 use Rattle.response.specs.declared.Verdict.{Verdict}
 use Rattle.response.specs.declared.Verdict.the-variants as verdict
 use Rattle.response.specs.Verdicts.{isSchedulable}
-use Rattle.response.specs.Analysis.{baseOf, answerOf, roundsOf}
+use Rattle.response.specs.Analysis.{baseOf, startOf, answerOf, roundsOf}
 use Rattle.response.specs.Outcome.{Outcome, lateIf, lateAt, resultOf, verdictFor, verdictOf, answersAfter, roundsAfter}
 use Rattle.response.specs.Statements as says
 use Rattle.response.specs.Statements.{AnswerRight, RoundsRight, ResultRight, Written}
 use Rattle.response.proofs.PlaceLaws.{schedulable-only}
-use Rattle.response.proofs.TableLaws.{tasks-count, tasks-fit}
+use Rattle.response.proofs.TableLaws.{tasks-count, tasks-fit, periods-of}
 
 -- which verdict a check leads to
 pub refused-by : (c : Check) (result : Verdict) (r : Refusal) → isSchedulable result ≡ true ⊎ ((i : _) × (result ≡ verdict.Late i)) →
@@ -79,9 +80,10 @@ module _ (bytes answers rounds : List ℕ) where
   unfolding answersAfter
   answers-kept r e = rw e
 
-  rounds-kept : (r : Refusal) → tableCheck bytes (length answers) (length rounds) ≡ check.Refused r → roundsAfter bytes answers rounds ≡ rounds
+  pub rounds-kept : (start : Start) (r : Refusal) → tableCheck bytes (length answers) (length rounds) ≡ check.Refused r →
+      roundsAfter start bytes answers rounds ≡ rounds
   unfolding roundsAfter
-  rounds-kept r e = rw e
+  rounds-kept start r e = rw e
 
   -- a deserved refusal is the verdict
   pub verdict-given : (r : Refusal) → tableCheck bytes (length answers) (length rounds) ≡ check.Refused r →
@@ -101,31 +103,31 @@ module _ (bytes answers rounds : List ℕ) where
 pub demand1 : says.Demand1
 demand1 =
     record {
-      answered = λ bytes answers rounds. (
+      answered = λ start bytes answers rounds. (
         verdictOf bytes (length answers) (length rounds),
         answersAfter bytes answers rounds,
-        roundsAfter bytes answers rounds,
+        roundsAfter start bytes answers rounds,
         record { verdictIs = refl; answersAre = refl; roundsAre = refl },
       );
-      refused = λ bytes answers rounds answersLeft roundsLeft r o.
+      refused = λ start bytes answers rounds answersLeft roundsLeft r o.
           let e = refusal-is bytes answers rounds r (o .verdictIs) in (
             table-deserved bytes (length answers) (length rounds) r e,
             o .answersAre ∙ answers-kept bytes answers rounds r e,
-            o .roundsAre ∙ rounds-kept bytes answers rounds r e,
+            o .roundsAre ∙ rounds-kept bytes answers rounds start r e,
           );
-      given = λ bytes answers rounds answersLeft roundsLeft v r d o.
+      given = λ start bytes answers rounds answersLeft roundsLeft v r d o.
           o .verdictIs ∙ verdict-given bytes answers rounds r (table-gives bytes (length answers) (length rounds) r d);
-      notRefused = λ bytes answers rounds answersLeft roundsLeft v o never.
+      notRefused = λ start bytes answers rounds answersLeft roundsLeft v o never.
           table-right bytes (length answers) (length rounds)
           (check-clean bytes answers rounds (λ r e. never r (o .verdictIs ∙ e)));
-      accepted = λ bytes answers rounds answersLeft roundsLeft r right room o.
+      accepted = λ start bytes answers rounds answersLeft roundsLeft r right room o.
           clash (isClean (tableCheck bytes (length answers) (length rounds)))
           (ap isClean (table-clean bytes (length answers) (length rounds) right room))
           (ap isClean (refusal-is bytes answers rounds r (o .verdictIs)));
     }
 
 pub noSecondAnswer : says.NoSecondAnswer
-noSecondAnswer bytes answers rounds v w a r b s o p =
+noSecondAnswer start bytes answers rounds v w a r b s o p =
     (o .verdictIs ∙ sym (p .verdictIs), o .answersAre ∙ sym (p .answersAre), o .roundsAre ∙ sym (p .roundsAre))
 
 -- the answer and the rounds of a task, said without a search
@@ -147,33 +149,21 @@ module _ (table : Table) (i : ℕ) (costLow : 1 ≤ taskOf (table .tasks) i .cos
             ];
       }
 
-  pub rounds-right : RoundsRight table i (roundsOf table i)
-  unfolding roundsOf term
-  rounds-right =
+  pub rounds-right : (start : Start) → PeriodsLow (loadsOf (table .tasks) i) → RoundsRight start table i (roundsOf start table i)
+  unfolding roundsOf
+  rounds-right start periods =
+      let base = baseOf table i in
       let loads = loadsOf (table .tasks) i in
       let late = taskOf (table .tasks) i .latest in
       let due = taskOf (table .tasks) i .deadline in
-      let start = baseOf table i in
-      let one : 1 ≤ start = omega arith in
-      let above : NotAbove start loads start = λ w p e. omega (arith, demandGrows .atLeastBase start loads w) in
-      let k = rounds start loads start late due in
+      let one : 1 ≤ base = omega arith in
+      let above = both-starts .notAbove start base loads periods in
       record {
-        positive = roundsBound .positive start loads start late due one above;
-        last =
-            elim (bool? (eqb (term start loads start k) (term start loads start (k - 1)))) [
-              | inl y ↦ inl (eqb-true _ _ y)
-              | inr n ↦
-                  inr
-                  (ltb-true _ _
-                  (either-true (eqb (term start loads start k) (term start loads start (k - 1))) _
-                  (roundsMean .stop start loads start late due one above) n))
-            ];
-        first = λ j low high.
-            let n = not-either (eqb (term start loads start j) (term start loads start (j - 1))) _
-            (roundsMean .first start loads start late due j low high) in
-            (eqb-false _ _ (n .0), ltb-false _ _ (n .1));
-        within = roundsBound .within start loads start late due one above;
-        otherwise = roundsBound .otherwise start loads start late due one above;
+        positive = roundsBound .positive base loads (startOf start table i) late due one above;
+        last = last-stops base loads one (startOf start table i) late due above;
+        first = earlier-goes-on base loads one (startOf start table i) late due;
+        within = roundsBound .within base loads (startOf start table i) late due one above;
+        otherwise = roundsBound .otherwise base loads (startOf start table i) late due one above;
       }
 
 -- what a result says of the answers
@@ -234,8 +224,8 @@ module _ (bytes : List ℕ) (calm : NoDelay (tasksOf bytes)) (bare : rowCount by
   plain-answer i h =
       rw (no-blocking i, add-zero (taskOf (tasksOf bytes) i .cost), calm i (omega (arith, tasks-count bytes)))
 
-module _ (bytes answers rounds : List ℕ) (v : Verdict) (answersLeft roundsLeft : List ℕ)
-    (o : Outcome bytes answers rounds v answersLeft roundsLeft) (right : TableRight bytes)
+module _ (start : Start) (bytes answers rounds : List ℕ) (v : Verdict) (answersLeft roundsLeft : List ℕ)
+    (o : Outcome start bytes answers rounds v answersLeft roundsLeft) (right : TableRight bytes)
     (room : RoomFor bytes (length answers) (length rounds)) where
   clean : tableCheck bytes (length answers) (length rounds) ≡ check.Clean
   clean = table-clean bytes (length answers) (length rounds) right room
@@ -244,15 +234,15 @@ module _ (bytes answers rounds : List ℕ) (v : Verdict) (answersLeft roundsLeft
   unfolding answersAfter
   answers-filled = o .answersAre ∙ rw clean
 
-  rounds-filled : roundsLeft ≡ filled (roundsOf (tableOf bytes)) (taskCount bytes) rounds
+  rounds-filled : roundsLeft ≡ filled (roundsOf start (tableOf bytes)) (taskCount bytes) rounds
   unfolding roundsAfter
   rounds-filled = o .roundsAre ∙ rw clean
 
   pub answer-word : (i : ℕ) → i < taskCount bytes → wordOf answersLeft i ≡ answerOf (tableOf bytes) i
   answer-word i h = ap (λ l. getD l i 0) answers-filled ∙ getD-filled (answerOf (tableOf bytes)) (taskCount bytes) i answers 0 h
 
-  pub rounds-word : (i : ℕ) → i < taskCount bytes → wordOf roundsLeft i ≡ roundsOf (tableOf bytes) i
-  rounds-word i h = ap (λ l. getD l i 0) rounds-filled ∙ getD-filled (roundsOf (tableOf bytes)) (taskCount bytes) i rounds 0 h
+  pub rounds-word : (i : ℕ) → i < taskCount bytes → wordOf roundsLeft i ≡ roundsOf start (tableOf bytes) i
+  rounds-word i h = ap (λ l. getD l i 0) rounds-filled ∙ getD-filled (roundsOf start (tableOf bytes)) (taskCount bytes) i rounds 0 h
 
   cost-low : (i : ℕ) → i < taskCount bytes → 1 ≤ taskOf (tasksOf bytes) i .cost
   cost-low i h = tasks-fit bytes (right .records) .costLow i (omega (arith, tasks-count bytes))
@@ -261,17 +251,17 @@ module _ (bytes answers rounds : List ℕ) (v : Verdict) (answersLeft roundsLeft
   unfolding verdictOf
   result-is = o .verdictIs ∙ rw clean
 
-  written : Written bytes answers rounds v answersLeft roundsLeft
+  written : Written start bytes answers rounds v answersLeft roundsLeft
   written =
       record {
         answersRight = λ i h. rw (answer-word i h) (answer-right (tableOf bytes) i (cost-low i h));
-        roundsRight = λ i h. rw (rounds-word i h) (rounds-right (tableOf bytes) i (cost-low i h));
+        roundsRight = λ i h. rw (rounds-word i h) (rounds-right (tableOf bytes) i (cost-low i h) start (periods-of bytes (right .records) i h));
         answersLong = ap length answers-filled ∙ length-filled (answerOf (tableOf bytes)) (taskCount bytes) answers (room .answersLong);
-        roundsLong = ap length rounds-filled ∙ length-filled (roundsOf (tableOf bytes)) (taskCount bytes) rounds (room .roundsLong);
+        roundsLong = ap length rounds-filled ∙ length-filled (roundsOf start (tableOf bytes)) (taskCount bytes) rounds (room .roundsLong);
         answersStay = λ i h.
             ap (λ l. getD l i 0) answers-filled ∙ getD-filled-past (answerOf (tableOf bytes)) (taskCount bytes) i answers 0 h;
         roundsStay = λ i h.
-            ap (λ l. getD l i 0) rounds-filled ∙ getD-filled-past (roundsOf (tableOf bytes)) (taskCount bytes) i rounds 0 h;
+            ap (λ l. getD l i 0) rounds-filled ∙ getD-filled-past (roundsOf start (tableOf bytes)) (taskCount bytes) i rounds 0 h;
         result =
             result-transfer (answerOf (tableOf bytes)) (wordOf answersLeft) (taskCount bytes) v (λ i h. sym (answer-word i h))
             (subst (ResultRight (answerOf (tableOf bytes)) (taskCount bytes)) (sym result-is)

@@ -5,5 +5,6 @@ pub mod OutcomeLaws
 pub mod StageLaws
 pub mod PlaceLaws
 pub mod Demands
+pub mod Starts
 pub mod VersionOne
 pub mod WorkedTables

@@ -17,6 +17,7 @@ use Rattle.tables.specs.Layout.{taskCount, tableOf}
 use Rattle.tables.specs.Refusals.{at}
 use Rattle.tables.specs.Checks.{headCheck, recordsCheck, rowsCheck, tableCheck}
 use Rattle.tables.proofs.OrderLaws.{head-decides, records-decide, rows-decide, room-decides, all-pass}
+use Rattle.equation.specs.declared.Start.{Start}
 use Rattle.response.specs.declared.Verdict.{Verdict}
 use Rattle.response.specs.declared.Verdict.the-variants as verdict
 use Rattle.response.specs.Verdicts.{isSchedulable}
@@ -24,27 +25,27 @@ use Rattle.response.specs.Analysis.{answerOf, roundsOf}
 use Rattle.response.specs.Outcome.{Outcome, verdictOf, answersAfter, roundsAfter, resultOf, lateIf}
 use Rattle.response.specs.Slices.{Decoded, answerIn, roundsIn, Answered}
 
-module _ (bytes answers rounds : List ℕ) where
+module _ (start : Start) (bytes answers rounds : List ℕ) where
   -- a refusal leaves both slices as they were
   refused : (r : Refusal) → tableCheck bytes (length answers) (length rounds) ≡ check.Refused r →
-      Outcome bytes answers rounds (verdict.Refused r) answers rounds
+      Outcome start bytes answers rounds (verdict.Refused r) answers rounds
   unfolding verdictOf answersAfter roundsAfter
   refused r e = record { verdictIs = rw e; answersAre = rw e; roundsAre = rw e }
 
-  pub head-refused : (r : Refusal) → check.Refused r ≡ headCheck bytes → Outcome bytes answers rounds (verdict.Refused r) answers rounds
+  pub head-refused : (r : Refusal) → check.Refused r ≡ headCheck bytes → Outcome start bytes answers rounds (verdict.Refused r) answers rounds
   head-refused r e = refused r (head-decides bytes (length answers) (length rounds) r e)
 
   pub records-refused : (r : Refusal) → headCheck bytes ≡ check.Clean → check.Refused r ≡ recordsCheck bytes →
-      Outcome bytes answers rounds (verdict.Refused r) answers rounds
+      Outcome start bytes answers rounds (verdict.Refused r) answers rounds
   records-refused r head e = refused r (records-decide bytes (length answers) (length rounds) head r e)
 
   module _ (head : headCheck bytes ≡ check.Clean) (records : recordsCheck bytes ≡ check.Clean) where
-    pub rows-refused : (r : Refusal) → check.Refused r ≡ rowsCheck bytes → Outcome bytes answers rounds (verdict.Refused r) answers rounds
+    pub rows-refused : (r : Refusal) → check.Refused r ≡ rowsCheck bytes → Outcome start bytes answers rounds (verdict.Refused r) answers rounds
     rows-refused r e = refused r (rows-decide bytes (length answers) (length rounds) head records r e)
 
     module _ (rows : rowsCheck bytes ≡ check.Clean) (n : ℕ) (counted : n ≡ taskCount bytes) where
       pub no-room : both (leb n (length answers)) (leb n (length rounds)) ≡ false →
-          Outcome bytes answers rounds (verdict.Refused NoRoom) answers rounds
+          Outcome start bytes answers rounds (verdict.Refused NoRoom) answers rounds
       no-room e = refused NoRoom (room-decides bytes (length answers) (length rounds) head records rows n counted e)
 
       module _ (answersLong : n ≤ length answers) (roundsLong : n ≤ length rounds) where
@@ -56,9 +57,9 @@ module _ (bytes answers rounds : List ℕ) where
 
         -- answers that agree with the table's, task by task, are the outcome
         pub answered : (d : Decoded) (v : Verdict) (answersLeft roundsLeft : List ℕ) →
-            Answered d n v answers answersLeft rounds roundsLeft →
-            ((i : ℕ) → i < n → answerIn d i ≡ answerOf (tableOf bytes) i) → ((i : ℕ) → i < n → roundsIn d i ≡ roundsOf (tableOf bytes) i) →
-            Outcome bytes answers rounds v answersLeft roundsLeft
+            Answered start d n v answers answersLeft rounds roundsLeft →
+            ((i : ℕ) → i < n → answerIn d i ≡ answerOf (tableOf bytes) i) → ((i : ℕ) → i < n → roundsIn start d i ≡ roundsOf start (tableOf bytes) i) →
+            Outcome start bytes answers rounds v answersLeft roundsLeft
         unfolding verdictOf answersAfter roundsAfter
         answered d v answersLeft roundsLeft a answer round =
             record {
@@ -69,5 +70,5 @@ module _ (bytes answers rounds : List ℕ) where
                   (λ i h. ap (λ (x : ℕ). lateIf x (at i)) (answer i h))
                   ∙ ap (resultOf (answerOf (tableOf bytes))) counted);
               answersAre = rw accepted (a .answersAre ∙ filled-all (answerIn d) (answerOf (tableOf bytes)) answers answer);
-              roundsAre = rw accepted (a .roundsAre ∙ filled-all (roundsIn d) (roundsOf (tableOf bytes)) rounds round);
+              roundsAre = rw accepted (a .roundsAre ∙ filled-all (roundsIn start d) (roundsOf start (tableOf bytes)) rounds round);
             }

@@ -14,6 +14,8 @@ use Rattle.model.proofs.Keep.{keep-prefix, map-tabulate}
 use Rattle.tables.specs.Fields.{periodField, costField, deadlineField, priorityField}
 use Rattle.tables.specs.Layout.{taskCount, taskAt, tasksOf, priorityIn}
 use Rattle.tables.specs.Meaning.{RecordsRight}
+use Rattle.equation.specs.Starts.{PeriodsLow}
+use Rattle.equation.proofs.StartLaws.{periods-low}
 use Rattle.runs.specs.Jobs.{TasksFit}
 use Rattle.runs.proofs.Loads.{falls}
 
@@ -66,3 +68,9 @@ module _ (bytes : List ℕ) where
         (λ k l. lt-ltb (priorityIn bytes i) (priorityIn bytes k) (later-falls k i l h))
         (λ k l m. le-ltb (priorityIn bytes i) (priorityIn bytes k) (not-urgent i k l m)))
         ∙ map-tabulate loadOf (taskAt bytes) load i same
+
+    -- none of which has a period of 0
+    pub periods-of : (i : ℕ) → i < taskCount bytes → PeriodsLow (loadsOf (tasksOf bytes) i)
+    periods-of i h =
+        subst PeriodsLow (sym (loads-are (λ k. loadOf (taskAt bytes k)) i h (λ k l. refl)))
+        (periods-low (λ k. loadOf (taskAt bytes k)) i (λ k l. right k (omega arith) periodField .low))

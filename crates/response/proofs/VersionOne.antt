@@ -16,6 +16,8 @@ use Rattle.tables.specs.Fields.{taskCountField, rowCountField, periodField, cos
 use Rattle.tables.specs.Meaning.{Within, CountsRight, RecordRight, RowRight, TableRight}
 use Rattle.equation.specs.Answer.{answer}
 use Rattle.equation.specs.Sequence.{rounds}
+use Rattle.equation.specs.declared.Start.{Start}
+use Rattle.equation.specs.Starts.{startFrom}
 use Rattle.response.specs.Analysis.{baseOf, answerOf, roundsOf}
 use Rattle.response.specs.VersionOne.{recordOne, startOne, taskOne, rowOne, tableOne, RecordRules, RowRules, Rules, jitterOf, jitterLoad, jitterLoads, answerOne, roundsOne, VersionOneKept}
 use Rattle.response.proofs.DecodedLaws.{same-load}
@@ -128,12 +130,13 @@ answer-one bytes i =
     ap (λ (ls : List Load). answer (baseOf (tableOne bytes) i) ls (jitterOf (tableOne bytes) i) (taskOf (tableOne bytes .tasks) i .deadline))
     (loads-one bytes i)
 
-rounds-one : (bytes : List ℕ) (i : ℕ) → roundsOf (tableOne bytes) i ≡ roundsOne (tableOne bytes) i
+rounds-one : (start : Start) (bytes : List ℕ) (i : ℕ) → roundsOf start (tableOne bytes) i ≡ roundsOne start (tableOne bytes) i
 unfolding roundsOf
-rounds-one bytes i =
+rounds-one start bytes i =
+    let base = baseOf (tableOne bytes) i in
     ap
     (λ (ls : List Load).
-    rounds (baseOf (tableOne bytes) i) ls (baseOf (tableOne bytes) i) (jitterOf (tableOne bytes) i) (taskOf (tableOne bytes .tasks) i .deadline))
+    rounds base ls (startFrom start base ls) (jitterOf (tableOne bytes) i) (taskOf (tableOne bytes .tasks) i .deadline))
     (loads-one bytes i)
 
 pub versionOneKept : VersionOneKept
@@ -142,15 +145,15 @@ versionOneKept =
       reads = table-one;
       accepts = λ bytes one rules. right-holds bytes one (subst (λ (A : Type 0). A) (sym (rules-same bytes one)) rules);
       refuses = λ bytes one right. subst (λ (A : Type 0). A) (rules-same bytes one) (rules-hold bytes one right);
-      keeps = λ bytes answers rounds verdict answersLeft roundsLeft outcome right room one i h.
+      keeps = λ start bytes answers rounds verdict answersLeft roundsLeft outcome right room one i h.
           record {
             answerKept =
-                answer-word bytes answers rounds verdict answersLeft roundsLeft outcome right room i h
+                answer-word start bytes answers rounds verdict answersLeft roundsLeft outcome right room i h
                 ∙ ap (λ (t : Table). answerOf t i) (table-one bytes one)
                 ∙ answer-one bytes i;
             roundsKept =
-                rounds-word bytes answers rounds verdict answersLeft roundsLeft outcome right room i h
-                ∙ ap (λ (t : Table). roundsOf t i) (table-one bytes one)
-                ∙ rounds-one bytes i;
+                rounds-word start bytes answers rounds verdict answersLeft roundsLeft outcome right room i h
+                ∙ ap (λ (t : Table). roundsOf start t i) (table-one bytes one)
+                ∙ rounds-one start bytes i;
           };
     }

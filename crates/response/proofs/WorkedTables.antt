@@ -14,6 +14,8 @@ use Rattle.equation.specs.Demand.{demand}
 use Rattle.equation.specs.Sequence.{term}
 use Rattle.blocking.specs.Ceilings.{ceiling, blockingOf}
 use borrow.Author.Tests.{eqb-true}
+use Rattle.equation.specs.declared.Start.{Start}
+use Rattle.equation.specs.declared.Start.the-variants.{EveryCost, OwnCost}
 use Rattle.response.specs.Analysis.{answerOf, roundsOf}
 use Rattle.response.specs.Worked.{Said, nothing, says, Worked, workedTable, workedTables, Gives, WorkedRight, EachRight, WorkedTablesRight}
 
@@ -41,22 +43,31 @@ unfolding gives
 gives-means f n nothing p = tt
 gives-means f n (says words) p = same-words (tabulate f n) words p
 
+rightFrom : Worked → Start → Bool
+rightFrom w start = gives (roundsOf start (workedTable w)) (length (w .entries)) (w .rounds start)
+
 right : Worked → Bool
 right w =
     both (gives (blockingOf (workedTable w)) (length (w .entries)) (w .blocking))
     (both (gives (answerOf (workedTable w)) (length (w .entries)) (w .answers))
-    (gives (roundsOf (workedTable w)) (length (w .entries)) (w .rounds)))
+    (both (rightFrom w EveryCost) (rightFrom w OwnCost)))
 
 right-means : (w : Worked) → right w ≡ true → WorkedRight w
-unfolding right
+unfolding right rightFrom
 right-means w p =
     let a = both-true (gives (blockingOf (workedTable w)) (length (w .entries)) (w .blocking)) _ p in
     let b = both-true (gives (answerOf (workedTable w)) (length (w .entries)) (w .answers)) _ (a .1) in
+    let c = both-true (rightFrom w EveryCost) (rightFrom w OwnCost) (b .1) in
     record {
       blockingSaid = gives-means _ _ _ (a .0);
       answersSaid = gives-means _ _ _ (b .0);
-      roundsSaid = gives-means _ _ _ (b .1);
+      roundsSaid = from (c .0) (c .1);
     }
+  where
+    from : rightFrom w EveryCost ≡ true → rightFrom w OwnCost ≡ true →
+        (start : Start) → Gives (roundsOf start (workedTable w)) (length (w .entries)) (w .rounds start)
+    from every own EveryCost = gives-means _ _ _ every
+    from every own OwnCost = gives-means _ _ _ own
 
 allRight : List Worked → Bool
 allRight [] = true
@@ -70,7 +81,7 @@ each-right (w ∷ ws) p =
     (right-means w (b .0), each-right ws (b .1))
 
 computed : allRight workedTables ≡ true
-unfolding allRight right gives sameWords workedTables tabulate keep sumOf largestOf firstFrom demand term ceiling blockingOf answerOf roundsOf
+unfolding allRight right rightFrom gives sameWords workedTables tabulate keep sumOf largestOf firstFrom demand term ceiling blockingOf answerOf roundsOf
 computed = refl
 
 pub workedTablesRight : WorkedTablesRight

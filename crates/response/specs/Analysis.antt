@@ -5,9 +5,11 @@ use Prim.Native.Nat.{ℕ, _+_}
 use Rattle.model.specs.Tables.{Table, taskOf, loadsOf}
 use Rattle.equation.specs.Answer.{answer}
 use Rattle.equation.specs.Sequence.{rounds}
+use Rattle.equation.specs.declared.Start.{Start}
+use Rattle.equation.specs.Starts.{startFrom}
 use Rattle.blocking.specs.Ceilings.{blockingOf}
 
--- "x0 = C_i + B_i"
+-- "C_i + B_i"
 abbrev pub baseOf : Table → ℕ → ℕ
 baseOf table i = taskOf (table .tasks) i .cost + blockingOf table i
 
@@ -16,7 +18,11 @@ unfoldable pub answerOf : Table → ℕ → ℕ
 answerOf table i =
     answer (baseOf table i) (loadsOf (table .tasks) i) (taskOf (table .tasks) i .latest) (taskOf (table .tasks) i .deadline)
 
--- its rounds, from the start that document 01 decides
-unfoldable pub roundsOf : Table → ℕ → ℕ
-roundsOf table i =
-    rounds (baseOf table i) (loadsOf (table .tasks) i) (baseOf table i) (taskOf (table .tasks) i .latest) (taskOf (table .tasks) i .deadline)
+-- its x0: "the task's cost and blocking plus one cost of every more urgent task", or document 01's (document 02, L5)
+abbrev pub startOf : Start → Table → ℕ → ℕ
+startOf start table i = startFrom start (baseOf table i) (loadsOf (table .tasks) i)
+
+-- its rounds, from the start used
+unfoldable pub roundsOf : Start → Table → ℕ → ℕ
+roundsOf start table i =
+    rounds (baseOf table i) (loadsOf (table .tasks) i) (startOf start table i) (taskOf (table .tasks) i .latest) (taskOf (table .tasks) i .deadline)

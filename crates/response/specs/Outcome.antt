@@ -1,4 +1,5 @@
--- What `analyse` answers and leaves in both slices, for any bytes and any slices (document 01, "Refusals").
+-- What `analyse_from` answers and leaves in both slices, for any start, bytes and slices (document 01, "Refusals"). `analyse` is that
+-- with the default start.
 -- Assumes nothing.
 use Prim.Native.Nat.{ℕ}
 use mathlib.Core.Path.{_≡_}
@@ -15,6 +16,7 @@ use Rattle.tables.specs.declared.Check.the-variants as check
 use Rattle.tables.specs.Layout.{taskCount, tableOf}
 use Rattle.tables.specs.Refusals.{at}
 use Rattle.tables.specs.Checks.{tableCheck}
+use Rattle.equation.specs.declared.Start.{Start}
 use Rattle.response.specs.declared.Verdict.{Verdict}
 use Rattle.response.specs.declared.Verdict.the-variants.{Refused, Schedulable, Late}
 use Rattle.response.specs.Verdicts.{isSchedulable}
@@ -50,12 +52,12 @@ unfoldable pub answersAfter : List ℕ → List ℕ → List ℕ → List ℕ
 answersAfter bytes answers rounds =
     wordsAfter (tableCheck bytes (length answers) (length rounds)) (filled (answerOf (tableOf bytes)) (taskCount bytes) answers) answers
 
-unfoldable pub roundsAfter : List ℕ → List ℕ → List ℕ → List ℕ
-roundsAfter bytes answers rounds =
-    wordsAfter (tableCheck bytes (length answers) (length rounds)) (filled (roundsOf (tableOf bytes)) (taskCount bytes) rounds) rounds
+unfoldable pub roundsAfter : Start → List ℕ → List ℕ → List ℕ → List ℕ
+roundsAfter start bytes answers rounds =
+    wordsAfter (tableCheck bytes (length answers) (length rounds)) (filled (roundsOf start (tableOf bytes)) (taskCount bytes) rounds) rounds
 
--- The whole outcome: the verdict, and every word of both slices.
-pub record Outcome (bytes answers rounds : List ℕ) (verdict : Verdict) (answersLeft roundsLeft : List ℕ) : Type 0 where
+-- The whole outcome: the verdict, and every word of both slices. Of the start speak the rounds alone.
+pub record Outcome (start : Start) (bytes answers rounds : List ℕ) (verdict : Verdict) (answersLeft roundsLeft : List ℕ) : Type 0 where
   pub verdictIs : verdict ≡ verdictOf bytes (length answers) (length rounds)
   pub answersAre : answersLeft ≡ answersAfter bytes answers rounds
-  pub roundsAre : roundsLeft ≡ roundsAfter bytes answers rounds
+  pub roundsAre : roundsLeft ≡ roundsAfter start bytes answers rounds

@@ -9,6 +9,8 @@ use Rattle.model.specs.Tables.{Load}
 use Rattle.equation.specs.Answer.{answer}
 use Rattle.equation.specs.Sequence.{rounds}
 use Rattle.equation.specs.Slices.{loads, LoadsFit}
+use Rattle.equation.specs.declared.Start.{Start}
+use Rattle.equation.specs.Starts.{startFrom}
 use Rattle.blocking.specs.Slices.{sectionAt}
 use Rattle.response.specs.declared.Verdict.{Verdict}
 use Rattle.response.specs.Outcome.{resultOf}
@@ -50,8 +52,9 @@ loadsIn d i = loads (d .periods) (d .costs) (d .spreads) i
 unfoldable pub answerIn : Decoded → ℕ → ℕ
 answerIn d i = answer (baseIn d i) (loadsIn d i) (getD (d .latest) i 0) (getD (d .deadlines) i 0)
 
-unfoldable pub roundsIn : Decoded → ℕ → ℕ
-roundsIn d i = rounds (baseIn d i) (loadsIn d i) (baseIn d i) (getD (d .latest) i 0) (getD (d .deadlines) i 0)
+unfoldable pub roundsIn : Start → Decoded → ℕ → ℕ
+roundsIn start d i =
+    rounds (baseIn d i) (loadsIn d i) (startFrom start (baseIn d i) (loadsIn d i)) (getD (d .latest) i 0) (getD (d .deadlines) i 0)
 
 -- n tasks and the rows stand in the slices, each number within its limit
 pub record DecodedFits (d : Decoded) (n : ℕ) : Type 0 where
@@ -68,7 +71,7 @@ pub record DecodedFits (d : Decoded) (n : ℕ) : Type 0 where
   pub longestHigh : (k : ℕ) → k < d .rows → getD (d .longest) k 0 ≤ 1000000
 
 -- the result, and the first n words of both slices, are those of the decoded table
-pub record Answered (d : Decoded) (n : ℕ) (verdict : Verdict) (answers answersLeft rounds roundsLeft : List ℕ) : Type 0 where
+pub record Answered (start : Start) (d : Decoded) (n : ℕ) (verdict : Verdict) (answers answersLeft rounds roundsLeft : List ℕ) : Type 0 where
   pub verdictIs : verdict ≡ resultOf (answerIn d) n
   pub answersAre : answersLeft ≡ filled (answerIn d) n answers
-  pub roundsAre : roundsLeft ≡ filled (roundsIn d) n rounds
+  pub roundsAre : roundsLeft ≡ filled (roundsIn start d) n rounds

@@ -11,6 +11,8 @@ use Rattle.tables.specs.Layout.{byteAt, wordAt, versionOf, statedLength, taskCo
 use Rattle.tables.specs.Meaning.{Within, RowsRise, TableRight, RoomFor}
 use Rattle.equation.specs.Answer.{answer}
 use Rattle.equation.specs.Sequence.{rounds}
+use Rattle.equation.specs.declared.Start.{Start}
+use Rattle.equation.specs.Starts.{startFrom}
 use Rattle.response.specs.declared.Verdict.{Verdict}
 use Rattle.response.specs.Analysis.{baseOf}
 use Rattle.response.specs.Outcome.{Outcome}
@@ -93,15 +95,16 @@ jitterLoads table i = map jitterLoad (keep (moreUrgent (taskOf (table .tasks) i 
 abbrev pub answerOne : Table → ℕ → ℕ
 answerOne table i = answer (baseOf table i) (jitterLoads table i) (jitterOf table i) (taskOf (table .tasks) i .deadline)
 
--- "x0 = C_i + B_i", "Rounds is the smallest k ≥ 1 with x_k = x_(k−1) or x_k + J_i > D_i."
-abbrev pub roundsOne : Table → ℕ → ℕ
-roundsOne table i =
-    rounds (baseOf table i) (jitterLoads table i) (baseOf table i) (jitterOf table i) (taskOf (table .tasks) i .deadline)
+-- "Rounds is the smallest k ≥ 1 with x_k = x_(k−1) or x_k + J_i > D_i", with "x0 = C_i + B_i" where the start is `OwnCost`, and with
+-- L5's x0 where it is `EveryCost`
+abbrev pub roundsOne : Start → Table → ℕ → ℕ
+roundsOne start table i =
+    rounds (baseOf table i) (jitterLoads table i) (startFrom start (baseOf table i) (jitterLoads table i)) (jitterOf table i) (taskOf (table .tasks) i .deadline)
 
 -- what `analyse` leaves for the task at place i is what document 01's equation gives
-pub record KeptAt (bytes answersLeft roundsLeft : List ℕ) (i : ℕ) : Type 0 where
+pub record KeptAt (start : Start) (bytes answersLeft roundsLeft : List ℕ) (i : ℕ) : Type 0 where
   pub answerKept : wordOf answersLeft i ≡ answerOne (tableOne bytes) i
-  pub roundsKept : wordOf roundsLeft i ≡ roundsOne (tableOne bytes) i
+  pub roundsKept : wordOf roundsLeft i ≡ roundsOne start (tableOne bytes) i
 
 pub record VersionOneKept : Type 0 where
   -- "Version 1 tables read with earliest 0", for all bytes of version 1
@@ -110,6 +113,6 @@ pub record VersionOneKept : Type 0 where
   pub accepts : (bytes : List ℕ) → versionOf bytes ≡ 1 → RightOne bytes → TableRight bytes
   pub refuses : (bytes : List ℕ) → versionOf bytes ≡ 1 → TableRight bytes → RightOne bytes
   -- "and keep their answers", and their rounds
-  pub keeps : (bytes answers rounds : List ℕ) (verdict : Verdict) (answersLeft roundsLeft : List ℕ) →
-      Outcome bytes answers rounds verdict answersLeft roundsLeft → TableRight bytes → RoomFor bytes (length answers) (length rounds) →
-      versionOf bytes ≡ 1 → (i : ℕ) → i < taskCount bytes → KeptAt bytes answersLeft roundsLeft i
+  pub keeps : (start : Start) (bytes answers rounds : List ℕ) (verdict : Verdict) (answersLeft roundsLeft : List ℕ) →
+      Outcome start bytes answers rounds verdict answersLeft roundsLeft → TableRight bytes → RoomFor bytes (length answers) (length rounds) →
+      versionOf bytes ≡ 1 → (i : ℕ) → i < taskCount bytes → KeptAt start bytes answersLeft roundsLeft i

@@ -1,4 +1,4 @@
--- The worked tables that document 01 marks *, and the one of document 02's L4, as rows of one list under one statement.
+-- The worked tables that document 01 marks *, with the ones of document 02's L4 and L5, as rows of one list under one statement.
 -- Assumes nothing.
 use Prim.Native.Nat.{ℕ, suc}
 use mathlib.Core.Path.{_≡_}
@@ -7,6 +7,8 @@ use lib.ListN.{length}
 use Rattle.model.specs.Lists.{tabulate}
 use Rattle.model.specs.Tables.{Task, Row, Table}
 use Rattle.blocking.specs.Ceilings.{blockingOf}
+use Rattle.equation.specs.declared.Start.{Start}
+use Rattle.equation.specs.declared.Start.the-variants.{EveryCost, OwnCost}
 use Rattle.response.specs.Analysis.{answerOf, roundsOf}
 
 -- "entries are (T, C, D), with J 0 and no rows unless given"
@@ -52,14 +54,23 @@ pub record Worked : Type 0 where
   pub rows : List Row
   pub blocking : Said
   pub answers : Said
-  pub rounds : Said
+  pub rounds : Start → Said
+
+-- no rounds are given
+abbrev pub uncounted : Start → Said
+uncounted start = nothing
+
+-- document 01's rounds, and L5's
+abbrev pub bothCounted : List ℕ → List ℕ → Start → Said
+bothCounted own every OwnCost = says own
+bothCounted own every EveryCost = says every
 
 abbrev pub plain : List Entry → List ℕ → Worked
-plain entries answers = record { entries = entries; rows = []; blocking = nothing; answers = says answers; rounds = nothing }
+plain entries answers = record { entries = entries; rows = []; blocking = nothing; answers = says answers; rounds = uncounted }
 
-abbrev pub counted : List Entry → List ℕ → List ℕ → Worked
-counted entries answers rounds =
-    record { entries = entries; rows = []; blocking = nothing; answers = says answers; rounds = says rounds }
+abbrev pub counted : List Entry → List ℕ → (own every : List ℕ) → Worked
+counted entries answers own every =
+    record { entries = entries; rows = []; blocking = nothing; answers = says answers; rounds = bothCounted own every }
 
 abbrev pub workedTable : Worked → Table
 workedTable w = record { tasks = prioritised (w .entries); rows = w .rows }
@@ -70,20 +81,20 @@ workedTables =
     ∷ plain (entry 9 5 5 ∷ []) (5 ∷ [])
     ∷ plain (entry 9 6 5 ∷ []) (0 ∷ [])
     ∷ plain (entry 2 1 2 ∷ entry 6 3 6 ∷ []) (1 ∷ 6 ∷ [])
-    ∷ counted (entry 4 1 4 ∷ entry 6 2 6 ∷ entry 10 3 10 ∷ []) (1 ∷ 3 ∷ 10 ∷ []) (1 ∷ 2 ∷ 5 ∷ [])
+    ∷ counted (entry 4 1 4 ∷ entry 6 2 6 ∷ entry 10 3 10 ∷ []) (1 ∷ 3 ∷ 10 ∷ []) (1 ∷ 2 ∷ 5 ∷ []) (1 ∷ 1 ∷ 4 ∷ [])
     ∷ plain (entry 3 1 3 ∷ entry 5 1 5 ∷ entry 6 1 6 ∷ entry 10 2 10 ∷ []) (1 ∷ 2 ∷ 3 ∷ 9 ∷ [])
     ∷ plain (entry 10 1 3 ∷ entry 6 2 4 ∷ entry 5 1 5 ∷ []) (1 ∷ 3 ∷ 4 ∷ [])
     ∷ plain (entry 5 1 5 ∷ entry 6 2 4 ∷ entry 10 1 3 ∷ []) (1 ∷ 3 ∷ 0 ∷ [])
     ∷ plain (entry 6 4 6 ∷ entry 12 4 12 ∷ []) (4 ∷ 12 ∷ [])
     ∷ plain (entry 6 3 6 ∷ entry 12 8 12 ∷ []) (3 ∷ 0 ∷ [])
-    ∷ counted (delayed 30 10 20 0 10 ∷ entry 1000 15 25 ∷ []) (20 ∷ 0 ∷ []) (1 ∷ 2 ∷ [])
+    ∷ counted (delayed 30 10 20 0 10 ∷ entry 1000 15 25 ∷ []) (20 ∷ 0 ∷ []) (1 ∷ 2 ∷ []) (1 ∷ 1 ∷ [])
     ∷ plain (delayed 30 10 20 10 10 ∷ entry 1000 15 25 ∷ []) (20 ∷ 25 ∷ [])
     ∷ record {
       entries = entry 10 2 5 ∷ entry 20 3 12 ∷ entry 40 10 40 ∷ entry 100 4 50 ∷ [];
       rows = row 1 1 1 ∷ row 1 2 1 ∷ row 2 2 5 ∷ row 3 1 2 ∷ [];
       blocking = says (0 ∷ 5 ∷ 2 ∷ 0 ∷ []);
       answers = says (2 ∷ 10 ∷ 19 ∷ 26 ∷ []);
-      rounds = nothing;
+      rounds = uncounted;
     }
     ∷ []
 
@@ -95,12 +106,12 @@ Gives f n (says words) = tabulate f n ≡ words
 pub record WorkedRight (w : Worked) : Type 0 where
   pub blockingSaid : Gives (blockingOf (workedTable w)) (length (w .entries)) (w .blocking)
   pub answersSaid : Gives (answerOf (workedTable w)) (length (w .entries)) (w .answers)
-  pub roundsSaid : Gives (roundsOf (workedTable w)) (length (w .entries)) (w .rounds)
+  pub roundsSaid : (start : Start) → Gives (roundsOf start (workedTable w)) (length (w .entries)) (w .rounds start)
 
 abbrev pub EachRight : List Worked → Type 0
 EachRight [] = Unit {0}
 EachRight (w ∷ ws) = WorkedRight w × EachRight ws
 
--- Every worked table has the blocking, the answers and the rounds that the document gives.
+-- Every worked table has the blocking, the answers and, from each start, the rounds that the documents give.
 unfoldable pub WorkedTablesRight : Type 0
 WorkedTablesRight = EachRight workedTables

@@ -6,8 +6,10 @@ ghost use Rattle.model.specs.Choice.{pick};
 ghost use Rattle.response.specs.Verdicts.{isSchedulable};
 ghost use Rattle.response.specs.Outcome.{lateIf};
 ghost use Rattle.response.specs.Slices.{decoded, DecodedFits, Answered};
+use crate::Start;
 use crate::Verdict;
 use blocking::blocking;
+use equation::first_term;
 use equation::solve;
 use model::Place;
 use model::Priority;
@@ -30,8 +32,9 @@ fn with_answer(verdict: Verdict, answer: Ticks, at: Place) -> Verdict
     }
 }
 
-// Answers and rounds of the n tasks, each from its cost and blocking on.
+// Answers and rounds of the n tasks, each from its own first term on. The costs of the more urgent tasks are summed along the way.
 pub fn answer_all(
+    start: Start,
     priorities: &[u8],
     periods: &[u32],
     costs: &[u32],
@@ -48,25 +51,28 @@ pub fn answer_all(
 ) -> Verdict
     requires { ⌜ DecodedFits (decoded (now priorities) (now periods) (now costs) (now deadlines) (now spreads) (now latest) (now owners) (now tops) (now longest) m) n ⌝ }
     requires { ⌜ (n ≤ length (now answers)) × (n ≤ length (now rounds)) ⌝ }
-    ensures { λ r. ⌜ Answered (decoded (now (priorities .entry)) (now (periods .entry)) (now (costs .entry)) (now (deadlines .entry)) (now (spreads .entry)) (now (latest .entry)) (now (owners .entry)) (now (tops .entry)) (now (longest .entry)) m) n r (now (answers .entry)) (now (answers .exit)) (now (rounds .entry)) (now (rounds .exit)) ⌝ }
+    ensures { λ r. ⌜ Answered start (decoded (now (priorities .entry)) (now (periods .entry)) (now (costs .entry)) (now (deadlines .entry)) (now (spreads .entry)) (now (latest .entry)) (now (owners .entry)) (now (tops .entry)) (now (longest .entry)) m) n r (now (answers .entry)) (now (answers .exit)) (now (rounds .entry)) (now (rounds .exit)) ⌝ }
 {
     let mut verdict = Verdict::Schedulable;
+    let mut urgent = Ticks(0);
     for i in 0..n {
+        let cost = costs[i];
         let held = blocking(owners, tops, longest, m, Priority(priorities[i]));
-        let base = Ticks(costs[i] + held.0);
+        let base = Ticks(cost + held.0);
         let solved = solve(
             periods,
             costs,
             spreads,
             i,
             base,
-            base,
+            first_term(start, base, urgent),
             Ticks(latest[i]),
             Ticks(deadlines[i]),
         );
         answers[i] = solved.response.0;
         rounds[i] = solved.rounds;
         verdict = with_answer(verdict, solved.response, Place(i));
+        urgent = Ticks(urgent.0 + cost);
     }
     verdict
 }

@@ -3,12 +3,16 @@ ghost use mathlib.Core.Path.{_≡_};
 ghost use Prim.Native.Nat.{_<_};
 ghost use Rattle.response.specs.Verdicts.{codeOf, verdictPlace, packed};
 ghost use Rattle.response.specs.Outcome.{Outcome};
+ghost use Rattle.response.specs.Packing.{PackedOutcome};
+ghost use Rattle.equation.specs.declared.Start.the-variants.{EveryCost};
 use model::Place;
 use tables::Check;
 use tables::Refusal;
 
 mod answering;
 mod stages;
+
+pub use equation::Start;
 
 // What is said of a table.
 pub enum Verdict {
@@ -49,13 +53,27 @@ pub fn pack(verdict: Verdict) -> u64
 }
 
 // Any bytes and any slices get a verdict. A refusal changes no word; otherwise words 0 to n - 1 of `answers` and `rounds` are
-// written, and later words stay.
+// written, and later words stay. The rounds are those from the default start.
 pub fn analyse(table: &[u8], answers: &mut [u32], rounds: &mut [u32]) -> Verdict
-    ensures { λ r. ⌜ Outcome (now (table .entry)) (now (answers .entry)) (now (rounds .entry)) r (now (answers .exit)) (now (rounds .exit)) ⌝ }
+    ensures { λ r. ⌜ Outcome EveryCost (now (table .entry)) (now (answers .entry)) (now (rounds .entry)) r (now (answers .exit)) (now (rounds .exit)) ⌝ }
+{
+    analyse_from(Start::EveryCost, table, answers, rounds)
+}
+
+// The same, with the rounds from either start (document 02, L5). Verdict and answers do not depend on it.
+pub fn analyse_from(start: Start, table: &[u8], answers: &mut [u32], rounds: &mut [u32]) -> Verdict
+    ensures { λ r. ⌜ Outcome start (now (table .entry)) (now (answers .entry)) (now (rounds .entry)) r (now (answers .exit)) (now (rounds .exit)) ⌝ }
 {
     let checked = tables::head::check(table);
     match checked {
-        Check::Clean => stages::after_head(table, answers, rounds),
+        Check::Clean => stages::after_head(start, table, answers, rounds),
         Check::Refused(refusal) => Verdict::Refused(refusal),
     }
+}
+
+// The analysis from either start, its verdict in one number, for C.
+pub fn packed_from(start: Start, table: &[u8], answers: &mut [u32], rounds: &mut [u32]) -> u64
+    ensures { λ r. ⌜ PackedOutcome start (now (table .entry)) (now (answers .entry)) (now (rounds .entry)) r (now (answers .exit)) (now (rounds .exit)) ⌝ }
+{
+    pack(analyse_from(start, table, answers, rounds))
 }

@@ -10,6 +10,7 @@ ghost use Rattle.tables.specs.Checks.{headCheck, recordCheck};
 ghost use Rattle.reading.specs.Reading.{taskFrom, NumbersRead, numbersFault};
 ghost use Rattle.response.specs.Outcome.{Outcome};
 ghost use Rattle.response.specs.Stages.{RecordsHeld, RowsRead};
+use crate::Start;
 use crate::Verdict;
 use crate::answering::answer_all;
 use reading::records::ABOVE_EVERY_PRIORITY;
@@ -25,21 +26,22 @@ use tables::fields::count;
 use tables::layout::Layout;
 
 // The head is right: looks at the first record before room is made for all.
-pub fn after_head(table: &[u8], answers: &mut [u32], rounds: &mut [u32]) -> Verdict
+pub fn after_head(start: Start, table: &[u8], answers: &mut [u32], rounds: &mut [u32]) -> Verdict
     requires { ⌜ headCheck (now table) ≡ check.Clean ⌝ }
-    ensures { λ r. ⌜ Outcome (now (table .entry)) (now (answers .entry)) (now (rounds .entry)) r (now (answers .exit)) (now (rounds .exit)) ⌝ }
+    ensures { λ r. ⌜ Outcome start (now (table .entry)) (now (answers .entry)) (now (rounds .entry)) r (now (answers .exit)) (now (rounds .exit)) ⌝ }
 {
     let layout = tables::layout::of(table[VERSION_AT]);
     let first = reading::records::read(table, HEAD_SIZE);
     let checked = reading::records::check_numbers(first, HEAD_SIZE);
     match checked {
-        Check::Clean => after_numbers(table, layout, first, answers, rounds),
+        Check::Clean => after_numbers(start, table, layout, first, answers, rounds),
         Check::Refused(refusal) => Verdict::Refused(refusal),
     }
 }
 
 // The first record's T, C and D are right: looks at what stands behind them.
 pub fn after_numbers(
+    start: Start,
     table: &[u8],
     layout: Layout,
     first: TaskRecord,
@@ -50,7 +52,7 @@ pub fn after_numbers(
     requires { ⌜ headCheck (now table) ≡ check.Clean ⌝ }
     requires { ⌜ NumbersRead (now table) 5 first ⌝ }
     requires { ⌜ numbersFault first 5 ≡ check.Clean ⌝ }
-    ensures { λ r. ⌜ Outcome (now (table .entry)) (now (answers .entry)) (now (rounds .entry)) r (now (answers .exit)) (now (rounds .exit)) ⌝ }
+    ensures { λ r. ⌜ Outcome start (now (table .entry)) (now (answers .entry)) (now (rounds .entry)) r (now (answers .exit)) (now (rounds .exit)) ⌝ }
 {
     let delays = reading::records::read_delays(table, layout, HEAD_SIZE);
     let checked = reading::records::check_rest(
@@ -61,13 +63,14 @@ pub fn after_numbers(
         ABOVE_EVERY_PRIORITY,
     );
     match checked {
-        Check::Clean => after_first(table, layout, first, delays, answers, rounds),
+        Check::Clean => after_first(start, table, layout, first, delays, answers, rounds),
         Check::Refused(refusal) => Verdict::Refused(refusal),
     }
 }
 
 // The first record is right: reads the others.
 pub fn after_first(
+    start: Start,
     table: &[u8],
     layout: Layout,
     first: TaskRecord,
@@ -80,7 +83,7 @@ pub fn after_first(
     requires { ⌜ recordCheck (now table) 0 ≡ check.Clean ⌝ }
     requires { ⌜ taskFrom first delays ≡ taskAt (now table) 0 ⌝ }
     requires { ⌜ delays .earliest .0 ≤ delays .latest .0 ⌝ }
-    ensures { λ r. ⌜ Outcome (now (table .entry)) (now (answers .entry)) (now (rounds .entry)) r (now (answers .exit)) (now (rounds .exit)) ⌝ }
+    ensures { λ r. ⌜ Outcome start (now (table .entry)) (now (answers .entry)) (now (rounds .entry)) r (now (answers .exit)) (now (rounds .exit)) ⌝ }
 {
     let n = count(table[TASK_COUNT_AT]);
     let mut priorities = [0u8; 32];
@@ -108,6 +111,7 @@ pub fn after_first(
     );
     match checked {
         Check::Clean => after_records(
+            start,
             table,
             layout,
             n,
@@ -136,6 +140,7 @@ fn room(n: usize, answers: usize, rounds: usize) -> bool
 
 // The records are right: most tables have no rows, and then nothing is made ready for them.
 pub fn after_records(
+    start: Start,
     table: &[u8],
     layout: Layout,
     n: usize,
@@ -150,11 +155,12 @@ pub fn after_records(
 ) -> Verdict
     requires { ⌜ layout ≡ layoutOf (now table) ⌝ }
     requires { ⌜ RecordsHeld (now table) n (now priorities) (now periods) (now costs) (now deadlines) (now spreads) (now latest) ⌝ }
-    ensures { λ r. ⌜ Outcome (now (table .entry)) (now (answers .entry)) (now (rounds .entry)) r (now (answers .exit)) (now (rounds .exit)) ⌝ }
+    ensures { λ r. ⌜ Outcome start (now (table .entry)) (now (answers .entry)) (now (rounds .entry)) r (now (answers .exit)) (now (rounds .exit)) ⌝ }
 {
     let m = count(table[ROW_COUNT_AT]);
     if m == 0 {
         return without_rows(
+            start,
             table,
             n,
             priorities,
@@ -168,6 +174,7 @@ pub fn after_records(
         );
     }
     with_rows(
+        start,
         table,
         layout,
         n,
@@ -185,6 +192,7 @@ pub fn after_records(
 
 // No rows: looks at the room, and answers with nothing that blocks.
 pub fn without_rows(
+    start: Start,
     table: &[u8],
     n: usize,
     priorities: &[u8],
@@ -198,12 +206,13 @@ pub fn without_rows(
 ) -> Verdict
     requires { ⌜ RecordsHeld (now table) n (now priorities) (now periods) (now costs) (now deadlines) (now spreads) (now latest) ⌝ }
     requires { ⌜ rowCount (now table) ≡ 0 ⌝ }
-    ensures { λ r. ⌜ Outcome (now (table .entry)) (now (answers .entry)) (now (rounds .entry)) r (now (answers .exit)) (now (rounds .exit)) ⌝ }
+    ensures { λ r. ⌜ Outcome start (now (table .entry)) (now (answers .entry)) (now (rounds .entry)) r (now (answers .exit)) (now (rounds .exit)) ⌝ }
 {
     if !room(n, answers.len(), rounds.len()) {
         return Verdict::Refused(Refusal::NoRoom);
     }
     answer_all(
+        start,
         priorities,
         periods,
         costs,
@@ -222,6 +231,7 @@ pub fn without_rows(
 
 // Reads the m rows, then looks at the room.
 pub fn with_rows(
+    start: Start,
     table: &[u8],
     layout: Layout,
     n: usize,
@@ -238,7 +248,7 @@ pub fn with_rows(
     requires { ⌜ layout ≡ layoutOf (now table) ⌝ }
     requires { ⌜ RecordsHeld (now table) n (now priorities) (now periods) (now costs) (now deadlines) (now spreads) (now latest) ⌝ }
     requires { ⌜ m ≡ rowCount (now table) ⌝ }
-    ensures { λ r. ⌜ Outcome (now (table .entry)) (now (answers .entry)) (now (rounds .entry)) r (now (answers .exit)) (now (rounds .exit)) ⌝ }
+    ensures { λ r. ⌜ Outcome start (now (table .entry)) (now (answers .entry)) (now (rounds .entry)) r (now (answers .exit)) (now (rounds .exit)) ⌝ }
 {
     let mut places = [0u8; 64];
     let mut semaphores = [0u8; 64];
@@ -259,6 +269,7 @@ pub fn with_rows(
                 return Verdict::Refused(Refusal::NoRoom);
             }
             after_rows(
+                start,
                 table,
                 priorities,
                 periods,
@@ -281,6 +292,7 @@ pub fn with_rows(
 
 // The table is accepted: finds the ceilings once, then answers.
 pub fn after_rows(
+    start: Start,
     table: &[u8],
     priorities: &[u8],
     periods: &[u32],
@@ -299,12 +311,13 @@ pub fn after_rows(
     requires { ⌜ RecordsHeld (now table) n (now priorities) (now periods) (now costs) (now deadlines) (now spreads) (now latest) ⌝ }
     requires { ⌜ RowsRead (now table) m (now places) (now semaphores) (now longest) ⌝ }
     requires { ⌜ (n ≤ length (now answers)) × (n ≤ length (now rounds)) ⌝ }
-    ensures { λ r. ⌜ Outcome (now (table .entry)) (now (answers .entry)) (now (rounds .entry)) r (now (answers .exit)) (now (rounds .exit)) ⌝ }
+    ensures { λ r. ⌜ Outcome start (now (table .entry)) (now (answers .entry)) (now (rounds .entry)) r (now (answers .exit)) (now (rounds .exit)) ⌝ }
 {
     let mut owners = [0u8; 64];
     let mut tops = [0u8; 64];
     blocking::spans(priorities, places, semaphores, m, &mut owners, &mut tops);
     answer_all(
+        start,
         priorities,
         periods,
         costs,

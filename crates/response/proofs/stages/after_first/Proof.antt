@@ -98,7 +98,7 @@ returns : tie.Need-returns
 returns c = search needs
 
 returns-2 : tie.Need-returns-2
-returns-2 c = records-refused _ _ _ _ (c .before .before .before .before .before .before .before .before .before .before .before .before .before .before .before .before .before .before .before .before .before .before .pre .1 .0) (sym (c .before .checked .given .1) ∙ c .before .before .before .before .before .before .before .before .before .read-rest .ensures .0)
+returns-2 c = records-refused _ _ _ _ _ (c .before .before .before .before .before .before .before .before .before .before .before .before .before .before .before .before .before .before .before .before .before .before .pre .1 .0) (sym (c .before .checked .given .1) ∙ c .before .before .before .before .before .before .before .before .before .read-rest .ensures .0)
 
 pub after-first-spec : {M : Type 1} → statement M
 after-first-spec =

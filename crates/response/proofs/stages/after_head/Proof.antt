@@ -39,7 +39,7 @@ returns : tie.Need-returns
 returns c = search needs
 
 returns-2 : tie.Need-returns-2
-returns-2 c = records-refused _ _ _ _ (c .before .before .before .before .before .before .before .before .before .before .pre) (numbers-wrong _ (c .before .before .before .before .before .before .before .before .before .before .pre) _ (c .before .before .before .before .before .of .ensures) _ (c .before .before .before .before .read .ensures) _ (c .before .before .before .check-numbers .ensures) _ (c .before .checked .given .1))
+returns-2 c = records-refused _ _ _ _ _ (c .before .before .before .before .before .before .before .before .before .before .pre) (numbers-wrong _ (c .before .before .before .before .before .before .before .before .before .before .pre) _ (c .before .before .before .before .before .of .ensures) _ (c .before .before .before .before .read .ensures) _ (c .before .before .before .check-numbers .ensures) _ (c .before .checked .given .1))
 
 pub after-head-spec : {M : Type 1} → statement M
 after-head-spec =

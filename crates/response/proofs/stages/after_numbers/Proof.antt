@@ -33,7 +33,7 @@ returns : tie.Need-returns
 returns c = search needs
 
 returns-2 : tie.Need-returns-2
-returns-2 c = records-refused _ _ _ _ (c .before .before .before .before .before .before .before .before .pre .1 .0) (first-wrong _ (c .before .before .before .before .before .before .before .before .pre .1 .0) _ (c .before .before .before .before .before .before .before .before .pre .0) _ (c .before .before .before .before .before .before .before .before .pre .1 .1 .0) _ (sym (c .before .before .before .before .before .before .before .before .pre .1 .1 .1)) refl _ (c .before .before .before .before .read-delays .ensures) _ (c .before .before .before .check-rest .ensures) _ (c .before .checked .given .1))
+returns-2 c = records-refused _ _ _ _ _ (c .before .before .before .before .before .before .before .before .pre .1 .0) (first-wrong _ (c .before .before .before .before .before .before .before .before .pre .1 .0) _ (c .before .before .before .before .before .before .before .before .pre .0) _ (c .before .before .before .before .before .before .before .before .pre .1 .1 .0) _ (sym (c .before .before .before .before .before .before .before .before .pre .1 .1 .1)) refl _ (c .before .before .before .before .read-delays .ensures) _ (c .before .before .before .check-rest .ensures) _ (c .before .checked .given .1))
 
 pub after-numbers-spec : {M : Type 1} → statement M
 after-numbers-spec =

@@ -49,9 +49,9 @@ returns c =
     let few = few-rows _ _ _ _ _ _ _ _ _ _ _ _ records rows in
     let owners = holds-filled _ _ _ _ (c .before .before .before .before .before .before .before .before .before .before .before .spans .ensures .0) few in
     let tops = holds-filled _ _ _ _ (c .before .before .before .before .before .before .before .before .before .before .before .spans .ensures .1) few in
-    answered _ _ _ (records .head) (records .records) (rows .rows) _ (records .counted) (room .0) (room .1) _ _ _ _ (c .before .before .before .before .answer-all .ensures)
+    answered _ _ _ _ (records .head) (records .records) (rows .rows) _ (records .counted) (room .0) (room .1) _ _ _ _ (c .before .before .before .before .answer-all .ensures)
     (answer-agrees _ _ _ _ _ _ _ _ _ _ _ _ records rows _ _ owners tops)
-    (rounds-agree _ _ _ _ _ _ _ _ _ _ _ _ records rows _ _ owners tops)
+    (λ i h. rounds-agree _ _ _ _ _ _ _ _ _ _ _ _ records rows _ _ owners tops i h _)
 
 pub after-rows-spec : {M : Type 1} → statement M
 after-rows-spec =

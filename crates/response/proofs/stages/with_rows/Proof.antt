@@ -31,7 +31,7 @@ room-requires c κs = search needs
 returns : tie.Need-returns
 returns c =
     let p = c .before .before .before .before .before .before .before .before .before .before .before .before .before .before .before .before .before .before .before .before .pre .1 .0 in
-    no-room _ _ _ (p .head) (p .records) (sym (c .before .before .before .before .before .before .before .read-all .ensures .0) ∙ c .before .before .enum-told .given .1) _ (p .counted) (refuted (c .before .room .ensures) (c .if1 .taken))
+    no-room _ _ _ _ (p .head) (p .records) (sym (c .before .before .before .before .before .before .before .read-all .ensures .0) ∙ c .before .before .enum-told .given .1) _ (p .counted) (refuted (c .before .room .ensures) (c .if1 .taken))
 
 slice-aggregate-after-rows : tie.Need-slice-aggregate-after-rows
 slice-aggregate-after-rows c = search needs
@@ -69,7 +69,7 @@ returns-2 c = search needs
 returns-3 : tie.Need-returns-3
 returns-3 c =
     let p = c .before .before .before .before .before .before .before .before .before .before .before .before .before .before .before .before .before .before .before .pre .1 .0 in
-    rows-refused _ _ _ (p .head) (p .records) _ (sym (c .before .checked .given .1) ∙ c .before .before .before .before .before .before .read-all .ensures .0)
+    rows-refused _ _ _ _ (p .head) (p .records) _ (sym (c .before .checked .given .1) ∙ c .before .before .before .before .before .before .read-all .ensures .0)
 
 pub with-rows-spec : {M : Type 1} → statement M
 with-rows-spec =

@@ -15,7 +15,7 @@ room-requires c κs = search needs
 returns : tie.Need-returns
 returns c =
     let p = c .before .before .before .before .before .before .before .before .before .before .before .pre .0 in
-    no-room _ _ _ (p .head) (p .records) (no-rows _ [] [] [] (c .before .before .before .before .before .before .before .before .before .before .before .pre .1) .rows) _ (p .counted) (refuted (c .before .room .ensures) (c .if1 .taken))
+    no-room _ _ _ _ (p .head) (p .records) (no-rows _ [] [] [] (c .before .before .before .before .before .before .before .before .before .before .before .pre .1) .rows) _ (p .counted) (refuted (c .before .room .ensures) (c .if1 .taken))
 
 slice-aggregate-answer-all : tie.Need-slice-aggregate-answer-all
 slice-aggregate-answer-all c = search needs
@@ -43,9 +43,9 @@ returns-2 c =
     let p = c .before .before .before .before .before .before .before .before .before .before .before .before .before .before .before .before .before .before .before .before .before .pre .0 in
     let rows = no-rows _ [] [] _ (c .before .before .before .before .before .before .before .before .before .before .before .before .before .before .before .before .before .before .before .before .before .pre .1) in
     let room = room-is _ _ _ (confirmed (c .before .before .before .before .before .before .before .before .before .before .before .room .ensures) (c .before .before .before .before .before .before .before .before .before .before .if1 .left)) in
-    answered _ _ _ (p .head) (p .records) (rows .rows) _ (p .counted) (room .0) (room .1) _ _ _ _ (c .before .before .before .before .answer-all .ensures)
+    answered _ _ _ _ (p .head) (p .records) (rows .rows) _ (p .counted) (room .0) (room .1) _ _ _ _ (c .before .before .before .before .answer-all .ensures)
     (answer-agrees _ _ _ _ _ _ _ _ _ [] [] _ p rows _ _ (nothing-held _ _) (nothing-held _ _))
-    (rounds-agree _ _ _ _ _ _ _ _ _ [] [] _ p rows _ _ (nothing-held _ _) (nothing-held _ _))
+    (λ i h. rounds-agree _ _ _ _ _ _ _ _ _ [] [] _ p rows _ _ (nothing-held _ _) (nothing-held _ _) i h _)
 
 pub without-rows-spec : {M : Type 1} → statement M
 without-rows-spec =
