@@ -16,7 +16,7 @@ mod pieces;
 
 pub use pieces::append;
 use pieces::append_number;
-use pieces::append_with_number;
+pub use pieces::append_with_number;
 
 // Bytes enough for the text of any table: 32 task lines of at most 52 bytes, the first and the last line, and what `worked` adds.
 pub const ROOM: usize = 2048;
@@ -139,7 +139,7 @@ fn deadline(table: &[u8], place: usize) -> u32
 }
 
 // The word at a place; 0 past the end, which no accepted table reaches.
-fn word(words: &[u32], place: usize) -> u32
+pub fn word(words: &[u32], place: usize) -> u32
     ensures { λ r. ⌜ r ≡ getD (now (words .entry)) place 0 ⌝ }
 {
     if place < words.len() { words[place] } else { 0 }

@@ -1,4 +1,4 @@
--- One word more of lists that are looked at from the front, and what the engine's side makes of them.
+-- One word more of lists that are looked at from the front, and what is made of two outcomes.
 -- Assumes nothing.
 use Prim.Native.Nat.{ℕ, suc, _+_, _≤_, _<_}
 use native.Mathlib.Omega.{arith}
@@ -6,16 +6,19 @@ use native.Mathlib.Numerals.{add-one}
 use mathlib.Core.Path.{_≡_, refl}
 use mathlib.Core.Bool.{Bool, true, false}
 use mathlib.Core.Logic.{inl, inr}
-use mathlib.Core.List.{List, [], _∷_}
+use mathlib.Core.List.{List, [], _∷_, _++_}
 use lib.Dec.{eqb}
 use lib.ListN.{length, getD, drop, drop-of-length-le}
 use lib.Seq.{drop-cons}
 use borrow.Author.Tests.{eq-eqb, ne-eqb}
 use Rattle.model.proofs.Tests.{eqb?}
+use Rattle.printing.specs.Text.{bytesOf, withNumber}
 use Rattle.response.specs.declared.Verdict.{Verdict}
 use Rattle.response.specs.Verdicts.{codeOf, verdictPlace}
 use Rattle.worked.specs.Stay.{filler, allFiller, stays}
-use Rattle.worked.specs.Played.{isRefused, sameWords, agrees}
+use Rattle.worked.specs.Compared.{sameWords, sameOutcome}
+use Rattle.worked.specs.Played.{isRefused, agrees}
+use Rattle.worked.specs.Starts.{numbersText}
 
 -- a word that has stayed, one that has not, and the end
 module _ (words : List ℕ) (i : ℕ) where
@@ -61,6 +64,19 @@ module _ (one other : List ℕ) (i : ℕ) where
   unfolding sameWords
   same-past h l = rw (drop-of-length-le one h, drop-of-length-le other l)
 
+-- two outcomes, case by case
+module _ (verdict heard : Verdict) (answers played : List ℕ) (one other : ℕ) (oneIs : one ≡ codeOf verdict) (otherIs : other ≡ codeOf heard) where
+  pub codes-differ : ¬ (one ≡ other) → false ≡ sameOutcome verdict heard answers played
+  codes-differ d = rw (← oneIs, ← otherIs, ne-eqb one other d)
+
+  module _ (codes : one ≡ other) (here there : ℕ) (hereIs : here ≡ verdictPlace verdict) (thereIs : there ≡ verdictPlace heard) where
+    pub places-differ : ¬ (here ≡ there) → false ≡ sameOutcome verdict heard answers played
+    places-differ d = rw (← oneIs, ← otherIs, eq-eqb one other codes, ← hereIs, ← thereIs, ne-eqb here there d)
+
+    pub words-decide : (r : Bool) → here ≡ there → r ≡ sameWords answers played → r ≡ sameOutcome verdict heard answers played
+    words-decide r places e =
+        rw (← oneIs, ← otherIs, eq-eqb one other codes, ← hereIs, ← thereIs, eq-eqb here there places) e
+
 -- the engine's side, case by case
 module _ (verdict heard : Verdict) (answers played : List ℕ) where
   pub heard-refused : (r : Bool) → isRefused heard ≡ true → r ≡ stays played 0 → r ≡ agrees verdict heard answers played
@@ -70,14 +86,15 @@ module _ (verdict heard : Verdict) (answers played : List ℕ) where
     pub takes-alone : isRefused verdict ≡ true → true ≡ agrees verdict heard answers played
     takes-alone p = rw (takes, p)
 
-    module _ (taken : isRefused verdict ≡ false) (one other : ℕ) (oneIs : one ≡ codeOf verdict) (otherIs : other ≡ codeOf heard) where
-      pub codes-differ : ¬ (one ≡ other) → false ≡ agrees verdict heard answers played
-      codes-differ d = rw (takes, taken, ← oneIs, ← otherIs, ne-eqb one other d)
+    pub both-take : (r : Bool) → isRefused verdict ≡ false → r ≡ sameOutcome verdict heard answers played → r ≡ agrees verdict heard answers played
+    both-take r taken e = rw (takes, taken) e
 
-      module _ (codes : one ≡ other) (here there : ℕ) (hereIs : here ≡ verdictPlace verdict) (thereIs : there ≡ verdictPlace heard) where
-        pub places-differ : ¬ (here ≡ there) → false ≡ agrees verdict heard answers played
-        places-differ d = rw (takes, taken, ← oneIs, ← otherIs, eq-eqb one other codes, ← hereIs, ← thereIs, ne-eqb here there d)
+-- one number more
+pub numbers-none : (words : List ℕ) → [] ≡ numbersText words 0
+unfolding numbersText
+numbers-none words = refl
 
-        pub words-decide : (r : Bool) → here ≡ there → r ≡ sameWords answers played → r ≡ agrees verdict heard answers played
-        words-decide r places e =
-            rw (takes, taken, ← oneIs, ← otherIs, eq-eqb one other codes, ← hereIs, ← thereIs, eq-eqb here there places) e
+pub numbers-more : (words : List ℕ) (i word : ℕ) → word ≡ getD words i 0 →
+    numbersText words i ++ withNumber (bytesOf " ") word ≡ numbersText words (i + 1)
+unfolding numbersText
+numbers-more words i word e = rw (e, add-one)

@@ -1,2 +1,4 @@
 pub mod Stay
+pub mod Compared
 pub mod Played
+pub mod Starts

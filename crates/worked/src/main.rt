@@ -1,5 +1,6 @@
 // Judges every table of the file `tables` and prints each one's text, to be held to an independent reference. Then the engine plays
 // it, and a line says with which verdict; where it takes a table and does not say and leave what the analysis does, a line says so.
+// A last line tells the rounds from the old start; where that changes the verdict or an answer, a line says so.
 //
 // An entry of the file is two bytes with the table's length, one byte with the length of the slice to lend for answers, one byte
 // with that of the slice to lend for rounds, and the table's bytes.
@@ -9,10 +10,14 @@ ghost use lib.ListN.{length};
 ghost use Rattle.printing.specs.Appended.{Appended};
 ghost use Rattle.worked.specs.Stay.{stays, stayLine};
 
+mod comparing;
 mod playing;
+mod starts;
 
+use comparing::same_outcome;
 use libc::STDOUT_FILENO;
 use printing::append;
+use response::Start;
 use response::Verdict;
 use tables::fields::count;
 
@@ -82,12 +87,16 @@ fn lend(number: u64, table: &[u8], answers_length: usize, rounds_length: usize)
     let mut answers = filler();
     let mut rounds = filler();
     let mut played = filler();
+    let mut old_answers = filler();
+    let mut old_rounds = filler();
     judge(
         number,
         table,
         &mut answers[..answers_length],
         &mut rounds[..rounds_length],
         &mut played[..answers_length],
+        &mut old_answers[..answers_length],
+        &mut old_rounds[..rounds_length],
     );
 }
 
@@ -99,19 +108,35 @@ fn filler() -> [u32; 256]
 }
 
 // Judges one table, and writes its text in one call.
-fn judge(number: u64, table: &[u8], answers: &mut [u32], rounds: &mut [u32], played: &mut [u32]) {
+fn judge(
+    number: u64,
+    table: &[u8],
+    answers: &mut [u32],
+    rounds: &mut [u32],
+    played: &mut [u32],
+    old_answers: &mut [u32],
+    old_rounds: &mut [u32],
+) {
     let verdict = response::analyse(table, answers, rounds);
+    let old = response::analyse_from(Start::OwnCost, table, old_answers, old_rounds);
     let heard = engine::play(table, played);
     let mut out = [0u8; printing::ROOM];
     let named = printing::line_with_number(&mut out, 0, b"table ", number);
     let told = printing::text(&mut out, named, table, verdict, answers, rounds);
     let first = first_to_stay(table, verdict);
     let kept = append_stay(&mut out, told, stay(answers, first) && stay(rounds, first));
-    let end = playing::append_played(
+    let heard_end = playing::append_played(
         &mut out,
         kept,
         heard,
         playing::agree(verdict, heard, answers, played),
+    );
+    let end = starts::append_own_cost(
+        &mut out,
+        heard_end,
+        old_rounds,
+        first,
+        same_outcome(verdict, old, answers, old_answers) && stay(old_rounds, first),
     );
     io::write_all(STDOUT_FILENO, &out[..end]);
 }

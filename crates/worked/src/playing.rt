@@ -1,11 +1,10 @@
 // The engine's side of an entry: its verdict, and whether it agrees with the analysis.
 ghost use mathlib.Core.Path.{_≡_};
 ghost use Rattle.printing.specs.Appended.{Appended};
-ghost use Rattle.worked.specs.Played.{isRefused, sameWords, agrees, playedText};
+ghost use Rattle.worked.specs.Played.{isRefused, agrees, playedText};
+use crate::comparing::same_outcome;
 use printing::append;
 use response::Verdict;
-use response::code;
-use response::place;
 
 fn is_refused(verdict: Verdict) -> bool
     ensures { λ r. ⌜ r ≡ isRefused verdict ⌝ }
@@ -15,21 +14,6 @@ fn is_refused(verdict: Verdict) -> bool
         Verdict::Schedulable => false,
         Verdict::Late(_) => false,
     }
-}
-
-// Are these the same words?
-fn same(one: &[u32], other: &[u32]) -> bool
-    ensures { λ r. ⌜ r ≡ sameWords (now (one .entry)) (now (other .entry)) ⌝ }
-{
-    if one.len() != other.len() {
-        return false;
-    }
-    for i in 0..one.len() {
-        if one[i] != other[i] {
-            return false;
-        }
-    }
-    true
 }
 
 // A refusal of the engine leaves every word as it was; where neither refuses, both say the same, and leave the same words. (The
@@ -43,13 +27,7 @@ pub fn agree(verdict: Verdict, heard: Verdict, answers: &[u32], played: &[u32]) 
     if is_refused(verdict) {
         return true;
     }
-    if code(verdict) != code(heard) {
-        return false;
-    }
-    if place(verdict) != place(heard) {
-        return false;
-    }
-    same(answers, played)
+    same_outcome(verdict, heard, answers, played)
 }
 
 // Appends the engine's line, and one more where it does not agree.

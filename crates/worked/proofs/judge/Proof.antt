@@ -1,13 +1,16 @@
 -- `worked::judge` is safe and ends: the text ends within the buffer, part by part.
 -- Assumes nothing.
-use borrow.Author.Needs.{needs}
 use native.Mathlib.Omega.{arith}
 use Rattle.printing.proofs.AppendLaws.{ends-within, part-length}
+use borrow.Author.Needs.{needs}
 use Rattle.worked.proofs.judge.Statement.{statement}
 use Rattle.worked.proofs.judge.Tie as tie
 
 analyse-requires : tie.Need-analyse-requires
 analyse-requires c κs = search needs
+
+analyse-from-requires : tie.Need-analyse-from-requires
+analyse-from-requires c κs = search needs
 
 play-requires : tie.Need-play-requires
 play-requires c κs = search needs
@@ -51,23 +54,41 @@ agree-requires c κs = search needs
 append-played-requires : tie.Need-append-played-requires
 append-played-requires c κs = search needs
 
+slice-aggregate-append-own-cost : tie.Need-slice-aggregate-append-own-cost
+slice-aggregate-append-own-cost c = search needs
+
+same-outcome-requires : tie.Need-same-outcome-requires
+same-outcome-requires c κs = search needs
+
+stay-requires-3 : tie.Need-stay-requires-3
+stay-requires-3 c κs = search needs
+
+append-own-cost-requires : tie.Need-append-own-cost-requires
+append-own-cost-requires c κs = search needs
+
 array-share-prefix-out : tie.Need-array-share-prefix-out
-array-share-prefix-out c = ends-within (c .before .append-played .ensures) (ends-within (c .before .before .before .before .before .before .before .append-stay .ensures) (ends-within (c .before .before .before .before .before .before .before .before .before .before .before .before .before .before .text .ensures) (ends-within (c .before .before .before .before .before .before .before .before .before .before .before .before .before .before .before .before .before .before .before .line-with-number .ensures) (omega arith))))
+array-share-prefix-out c = ends-within (c .before .append-own-cost .ensures) (ends-within (c .before .before .before .before .before .before .before .before .before .append-played .ensures) (ends-within (c .before .before .before .before .before .before .before .before .before .before .before .before .before .before .before .append-stay .ensures) (ends-within (c .before .before .before .before .before .before .before .before .before .before .before .before .before .before .before .before .before .before .before .before .before .before .text .ensures) (ends-within (c .before .before .before .before .before .before .before .before .before .before .before .before .before .before .before .before .before .before .before .before .before .before .before .before .before .before .before .line-with-number .ensures) (omega arith)))))
 
 slice-aggregate-write-all : tie.Need-slice-aggregate-write-all
-slice-aggregate-write-all c = part-length _ (c .before .before .append-played .last .0) (ends-within (c .before .before .append-played .ensures) (ends-within (c .before .before .before .before .before .before .before .before .append-stay .ensures) (ends-within (c .before .before .before .before .before .before .before .before .before .before .before .before .before .before .before .text .ensures) (ends-within (c .before .before .before .before .before .before .before .before .before .before .before .before .before .before .before .before .before .before .before .before .line-with-number .ensures) (omega arith)))))
+slice-aggregate-write-all c = part-length _ (c .before .before .append-own-cost .last .0) (ends-within (c .before .before .append-own-cost .ensures) (ends-within (c .before .before .before .before .before .before .before .before .before .before .append-played .ensures) (ends-within (c .before .before .before .before .before .before .before .before .before .before .before .before .before .before .before .before .append-stay .ensures) (ends-within (c .before .before .before .before .before .before .before .before .before .before .before .before .before .before .before .before .before .before .before .before .before .before .before .text .ensures) (ends-within (c .before .before .before .before .before .before .before .before .before .before .before .before .before .before .before .before .before .before .before .before .before .before .before .before .before .before .before .before .line-with-number .ensures) (omega arith))))))
 
 write-all-requires : tie.Need-write-all-requires
 write-all-requires c κs = search needs
 
 same-length : tie.Need-same-length
-same-length c = omega (arith, c .before .before .before .before .before .before .before .before .before .before .before .before .before .before .before .before .before .before .before .before .before .before .before .before .before .before .before .before .before .before .before .before .analyse .kept)
+same-length c = omega (arith, c .before .before .before .before .before .before .before .before .before .before .before .before .before .before .before .before .before .before .before .before .before .before .before .before .before .before .before .before .before .before .before .before .before .before .before .before .before .before .before .before .before .before .before .before .before .before .before .analyse .kept)
 
 same-length-2 : tie.Need-same-length-2
-same-length-2 c = omega (arith, c .before .before .before .before .before .before .before .before .before .before .before .before .before .before .before .before .before .before .before .before .before .before .before .before .before .before .before .before .before .before .before .before .analyse .kept)
+same-length-2 c = omega (arith, c .before .before .before .before .before .before .before .before .before .before .before .before .before .before .before .before .before .before .before .before .before .before .before .before .before .before .before .before .before .before .before .before .before .before .before .before .before .before .before .before .before .before .before .before .before .before .before .analyse .kept)
 
 same-length-3 : tie.Need-same-length-3
-same-length-3 c = search needs
+same-length-3 c = omega (arith, c .before .before .before .before .before .before .before .before .before .before .before .before .before .before .before .before .before .before .before .before .before .before .before .before .before .before .before .before .before .before .before .before .before .before .play .kept)
+
+same-length-4 : tie.Need-same-length-4
+same-length-4 c = omega (arith, c .before .before .before .before .before .before .before .before .before .before .before .before .before .before .before .before .before .before .before .before .before .before .before .before .before .before .before .before .before .before .before .before .before .before .before .before .before .before .before .before .analyse-from .kept)
+
+same-length-5 : tie.Need-same-length-5
+same-length-5 c = omega (arith, c .before .before .before .before .before .before .before .before .before .before .before .before .before .before .before .before .before .before .before .before .before .before .before .before .before .before .before .before .before .before .before .before .before .before .before .before .before .before .before .before .analyse-from .kept)
 
 returns : tie.Need-returns
 returns c = search needs
@@ -77,6 +98,7 @@ judge-spec =
     tie.close
     (tie.spec
     analyse-requires
+    analyse-from-requires
     play-requires
     slice-aggregate-line-with-number
     slice-aggregate-line-with-number-2
@@ -91,10 +113,16 @@ judge-spec =
     slice-aggregate-append-played
     agree-requires
     append-played-requires
+    slice-aggregate-append-own-cost
+    same-outcome-requires
+    stay-requires-3
+    append-own-cost-requires
     array-share-prefix-out
     slice-aggregate-write-all
     write-all-requires
     same-length
     same-length-2
     same-length-3
+    same-length-4
+    same-length-5
     returns)

@@ -39,7 +39,7 @@ add-t25 : tie.Need-add-t25 Inv-loop μ-loop
 add-t25 c = omega (arith, base-fits _ _ _ _ (c .before .before .before .before .before .loop .inv .0 .fits) (c .before .before .before .before .loop-test .taken) (c .before .blocking .ensures))
 
 first-term-requires : tie.Need-first-term-requires Inv-loop μ-loop
-first-term-requires c κs = first-fits _ _ _ _ (c .before .before .before .before .before .loop .inv .0 .fits) (c .before .before .before .before .loop-test .taken) (c .before .blocking .ensures) _ _ (c .before .before .before .before .before .loop .inv .0)
+first-term-requires c κs = omega (arith, first-fits _ _ _ _ (c .before .before .before .before .before .loop .inv .0 .fits) (c .before .before .before .before .loop-test .taken) (c .before .blocking .ensures) _ _ (c .before .before .before .before .before .loop .inv .0))
 
 mul-t23 : tie.Need-mul-t23 Inv-loop μ-loop
 mul-t23 c = omega arith

@@ -1,13 +1,13 @@
--- `worked::playing::same` meets its contract: each turn looks at one word of both.
+-- `worked::comparing::same` meets its contract: each turn looks at one word of both.
 -- Assumes nothing.
 use Prim.Native.Nat.{_-_, _≤_}
 use native.Mathlib.Omega.{arith}
 use mathlib.Core.Path.{_≡_, refl, sym, _∙_}
 use lib.ListN.{length, drop}
-use Rattle.worked.specs.Played.{sameWords}
+use Rattle.worked.specs.Compared.{sameWords}
 use Rattle.worked.proofs.WordLaws.{lengths-differ, same-on, differ-here, same-past}
-use Rattle.worked.proofs.playing.same.Statement.{statement}
-use Rattle.worked.proofs.playing.same.Tie as tie
+use Rattle.worked.proofs.comparing.same.Statement.{statement}
+use Rattle.worked.proofs.comparing.same.Tie as tie
 
 abbrev Inv-loop : tie.InvT-loop
 Inv-loop one other i₀ i-end i = sameWords (drop i one) (drop i other) ≡ sameWords one other
