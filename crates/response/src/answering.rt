@@ -56,9 +56,9 @@ pub fn answer_all(
     let mut verdict = Verdict::Schedulable;
     let mut urgent = Ticks(0);
     for i in 0..n {
-        let cost = costs[i];
+        let cost = Ticks(costs[i]);
         let held = blocking(owners, tops, longest, m, Priority(priorities[i]));
-        let base = Ticks(cost + held.0);
+        let base = Ticks(cost.0 + held.0);
         let solved = solve(
             periods,
             costs,
@@ -72,7 +72,7 @@ pub fn answer_all(
         answers[i] = solved.response.0;
         rounds[i] = solved.rounds;
         verdict = with_answer(verdict, solved.response, Place(i));
-        urgent = Ticks(urgent.0 + cost);
+        urgent = Ticks(urgent.0 + cost.0);
     }
     verdict
 }
