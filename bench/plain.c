@@ -1,8 +1,15 @@
-/* plain.c: the analysis of document 01 and of document 02's L4 as one would write it in C, without
- * proofs: decoded once into local arrays, one divide for each load and round, and no cleverness
- * beyond that. Compiled with -DSKIP_DIVIDE it leaves out the divides that L2 does without. */
+/* plain.c: the analysis of document 01 and of document 02's L4 and L5 as one would write it in C,
+ * without proofs: decoded once into local arrays, one divide for each load and round, and no
+ * cleverness beyond that. Compiled with -DSKIP_DIVIDE it leaves out the divides that L2 does
+ * without. plain_own_cost.c compiles it with OWN_COST, for L5's other start. */
 #include "plain.h"
 #include "plain_table.h"
+
+#ifdef OWN_COST
+#define ENTRY plain_analyse_from_own_cost
+#else
+#define ENTRY plain_analyse
+#endif
 
 static uint32_t blocking(const struct tasks *tasks, const struct rows *rows, size_t i)
 {
@@ -25,24 +32,25 @@ static uint32_t divide_up(uint32_t n, uint32_t d)
     return (n - 1) / d + 1;
 }
 
-/* The demand of task i in a window of at least 1 tick; start is C + B. */
-static uint64_t demand(const struct tasks *tasks, size_t i, uint32_t start, uint32_t window)
+/* The demand of task i in a window of at least 1 tick; base is C + B. */
+static uint64_t demand(const struct tasks *tasks, size_t i, uint32_t base, uint32_t window)
 {
-    uint64_t sum = start;
+    uint64_t sum = base;
 
     for (size_t j = 0; j < i; j++)
         sum += (uint64_t)divide_up(window + tasks->spread[j], tasks->T[j]) * tasks->C[j];
     return sum;
 }
 
-/* The answer of task i, and its rounds. */
-static uint32_t respond(const struct tasks *tasks, size_t i, uint32_t start, uint32_t *rounds)
+/* The answer of task i, and its rounds from that start. */
+static uint32_t respond(const struct tasks *tasks, size_t i, uint32_t base, uint32_t start,
+                        uint32_t *rounds)
 {
     uint32_t window = start, done = 1, answer = 0;
 
     if (start + tasks->latest[i] <= tasks->D[i]) {
         for (;; done++) {
-            uint64_t next = demand(tasks, i, start, window);
+            uint64_t next = demand(tasks, i, base, window);
 
             if (next + tasks->latest[i] > tasks->D[i])
                 break;
@@ -57,12 +65,13 @@ static uint32_t respond(const struct tasks *tasks, size_t i, uint32_t start, uin
     return answer;
 }
 
-uint64_t plain_analyse(const uint8_t *table, size_t table_len,
-                       uint32_t *answers, size_t answers_len,
-                       uint32_t *rounds, size_t rounds_len)
+uint64_t ENTRY(const uint8_t *table, size_t table_len,
+               uint32_t *answers, size_t answers_len,
+               uint32_t *rounds, size_t rounds_len)
 {
     struct tasks tasks;
     struct rows rows;
+    uint32_t costs = 0; /* one of every more urgent task; from a task's own cost it stays 0 */
     uint64_t result = read_table(table, table_len, &tasks, &rows);
 
     if (result)
@@ -71,9 +80,12 @@ uint64_t plain_analyse(const uint8_t *table, size_t table_len,
         return verdict(8, 0);
 
     for (size_t i = 0; i < tasks.n; i++) {
-        uint32_t start = tasks.C[i] + blocking(&tasks, &rows, i);
+        uint32_t base = tasks.C[i] + blocking(&tasks, &rows, i);
 
-        answers[i] = respond(&tasks, i, start, &rounds[i]);
+        answers[i] = respond(&tasks, i, base, base + costs, &rounds[i]);
+#ifndef OWN_COST
+        costs += tasks.C[i];
+#endif
         if (answers[i] == 0 && result == 0)
             result = verdict(LATE, i);
     }

@@ -7,10 +7,16 @@
 #include <stdint.h>
 
 /* The verdict is code * 4294967296 + place: code 0 is schedulable, 1 to 8 refused with that
- * number, 255 late. */
+ * number, 255 late. Rounds start at the task's cost and blocking plus one cost of every more urgent
+ * task (document 02, L5). */
 uint64_t plain_analyse(const uint8_t *table, size_t table_len,
                        uint32_t *answers, size_t answers_len,
                        uint32_t *rounds, size_t rounds_len);
+
+/* The same, but for rounds: they start at the task's cost and blocking, as document 01 has it. */
+uint64_t plain_analyse_from_own_cost(const uint8_t *table, size_t table_len,
+                                     uint32_t *answers, size_t answers_len,
+                                     uint32_t *rounds, size_t rounds_len);
 
 /* The engine; the verdict is packed in the same way, and 9 is a refusal too. */
 uint64_t plain_play(const uint8_t *table, size_t table_len,

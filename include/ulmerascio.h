@@ -5,8 +5,8 @@
  * meets its deadline. It covers one processor, preemptive fixed priorities, whole ticks and
  * sporadic tasks. The engine of document 02, L1, comes to the same answers by playing.
  *
- * ulmerascio_analyse is in libfirmware.a, ulmerascio_play in libplayer.a; neither needs the
- * other.
+ * ulmerascio_analyse is in libfirmware.a, ulmerascio_analyse_from_own_cost in libmarking.a and
+ * ulmerascio_play in libplayer.a; none of them needs another, and a program may link them all.
  */
 #ifndef ULMERASCIO_H
 #define ULMERASCIO_H
@@ -76,6 +76,10 @@ enum ulmerascio_refusal_number {
  * to n - 1 of rounds get the rounds spent on them. Later words of both slices stay as they were.
  * If the table is refused, no word of either slice is changed.
  *
+ * A task's rounds start at its cost and blocking plus one cost of every more urgent task (document
+ * 02, L5). They are at most D - J - start + 1, with the latest delay for J, and 1 if the start with
+ * it is above D.
+ *
  * answers_len and rounds_len are counted in words. Each pointer must be good for its length:
  * table for reading table_len bytes, answers and rounds for reading and writing answers_len and
  * rounds_len words, and both aligned for a word. No pointer may be null, even where its length
@@ -84,6 +88,21 @@ enum ulmerascio_refusal_number {
 uint64_t ulmerascio_analyse(const uint8_t *table, size_t table_len,
                             uint32_t *answers, size_t answers_len,
                             uint32_t *rounds, size_t rounds_len);
+
+/* The same with document 01's start: a task's rounds start at its cost and blocking alone.
+ *
+ * Verdict, answers and the words that stay are always those of ulmerascio_analyse. The rounds are
+ * those that document 01 prints, 1, 2 and 5 for its fifth table where ulmerascio_analyse gives 1, 1
+ * and 4; they are never fewer, and the bound above holds for this start.
+ *
+ * Choose ulmerascio_analyse, which takes no more rounds to the same answers, unless the rounds are
+ * to be held against document 01's or others that are counted from a task's own cost.
+ *
+ * What is said above of lengths and pointers holds here too.
+ */
+uint64_t ulmerascio_analyse_from_own_cost(const uint8_t *table, size_t table_len,
+                                          uint32_t *answers, size_t answers_len,
+                                          uint32_t *rounds, size_t rounds_len);
 
 /* Plays the table of table_len bytes at table: a second way to the answers of
  * ulmerascio_analyse. It solves no equation, so that each can be held against the other. All

@@ -5,14 +5,15 @@ It shares no code and no idea of a quick way with the library: it reads the byte
 as document 01 lays them out, looks for each task's answer by search, and plays
 runs tick by tick. The engine of document 02, L1, is played from event to event, and
 knows nothing of the equation. Sentences in double quotation marks are document 01's,
-or L1's where the engine is spoken of, L3's where the places of refusals are, and L4's
-where version 2 or delays are.
+or L1's where the engine is spoken of, L3's where the places of refusals are, L4's
+where version 2 or delays are, and L5's where the starts are.
 
 Needs Python 3.7 or later and nothing else.
 """
 
 import argparse
 import collections
+import enum
 import itertools
 import os
 import sys
@@ -53,7 +54,6 @@ LONGEST_SLICE = 40
 # The fields as they follow each other in a record.
 Task = collections.namedtuple("Task", "priority period cost deadline earliest latest")
 Row = collections.namedtuple("Row", "place semaphore length")
-Outcome = collections.namedtuple("Outcome", "response rounds")
 
 
 class Refused(Exception):
@@ -211,36 +211,40 @@ def blocking_of(task, tasks, rows):
     return max(sections, default=0)
 
 
-def more_urgent_than(task, tasks):
-    # "A larger priority number is more urgent".
-    return [other for other in tasks if other.priority > task.priority]
+# What demand takes of a more urgent task.
+Load = collections.namedtuple("Load", "cost period spread")
+
+
+def loads_on(task, tasks):
+    # "A larger priority number is more urgent"; "latest minus earliest delay inside the
+    # interference".
+    return [Load(other.cost, other.period, other.latest - other.earliest)
+            for other in tasks if other.priority > task.priority]
 
 
 def rounded_up(number, divisor):
     return -(-number // divisor)
 
 
-def demand(base, urgent_tasks, window):
+def demand(base, loads, window):
     # "demand(i, w) is C_i + B_i plus, over every more urgent j, C_j times (w + J_j) / T_j
-    # rounded up", with "latest minus earliest delay inside the interference" for J_j; the base is
-    # C_i + B_i.
+    # rounded up", with the spread for J_j; the base is C_i + B_i.
     total = base
-    for urgent in urgent_tasks:
-        spread = urgent.latest - urgent.earliest
-        total += urgent.cost * rounded_up(window + spread, urgent.period)
+    for cost, period, spread in loads:
+        total += cost * rounded_up(window + spread, period)
     return total
 
 
-def plain_search(base, urgent_tasks, last):
+def plain_search(base, loads, last):
     # "The task's w is the smallest whole number of at least 1 with demand(i, w) = w": every
     # number from 1 to the last is tried. None if none of them is a solution.
     for window in range(1, last + 1):
-        if demand(base, urgent_tasks, window) == window:
+        if demand(base, loads, window) == window:
             return window
     return None
 
 
-def skipping_search(base, urgent_tasks, last):
+def skipping_search(base, loads, last):
     """The same search, leaving out only numbers that cannot be solutions.
 
     A longer window never has a smaller demand. So when demand(w) > w, every v from w to
@@ -248,14 +252,14 @@ def skipping_search(base, urgent_tasks, last):
     """
     window = 1
     while window <= last:
-        wanted = demand(base, urgent_tasks, window)
+        wanted = demand(base, loads, window)
         if wanted == window:
             return window
         window = wanted if wanted > window else window + 1
     return None
 
 
-def response_of(task, window):
+def answer_at(task, window):
     # "Its answer is w + J_i if such a w exists and w + J_i <= D_i; else 0." For J_i stands the
     # latest delay: "every test against the deadline and the bound on rounds use the latest". A
     # solution above D_i gives 0 as none does, so that both searches may end at D_i.
@@ -264,35 +268,68 @@ def response_of(task, window):
     return window + task.latest
 
 
-def count_rounds(task, base, urgent_tasks):
-    # "x0 = C_i + B_i, and each next x is demand(i, x). Rounds is the smallest k >= 1 with
-    # x_k = x_(k-1) or x_k + J_i > D_i."
-    rounds, before = 1, base
-    after = demand(base, urgent_tasks, before)
+def parts_of(task, tasks, rows):
+    """What a task's demand is made of: C_i + B_i, and the loads of the more urgent tasks."""
+    return task.cost + blocking_of(task, tasks, rows), loads_on(task, tasks)
+
+
+def response_of(task, tasks, rows):
+    return answer_at(task, skipping_search(*parts_of(task, tasks, rows), task.deadline))
+
+
+def responses_of(tasks, rows):
+    return [response_of(task, tasks, rows) for task in tasks]
+
+
+# ---------------------------------------------------------------------------
+# Rounds, and where they start
+# ---------------------------------------------------------------------------
+
+class Start(enum.Enum):
+    """The first term, x0, of the sequence that rounds are counted in."""
+
+    # "the task's cost and blocking plus one cost of every more urgent task"; one of each, however
+    # many jobs its delays let in at once.
+    EVERY_COST = "every cost"
+    # "the old start, which gives 01's rounds, stays as a named choice": "x0 = C_i + B_i".
+    OWN_COST = "own cost"
+
+
+DEFAULT_START = Start.EVERY_COST
+
+
+def first_term(start, base, loads):
+    if start is Start.OWN_COST:
+        return base
+    return base + sum(load.cost for load in loads)
+
+
+# How many rounds there are, and the last two terms.
+Sequence = collections.namedtuple("Sequence", "rounds before after")
+
+
+def sequence_from(start, task, base, loads):
+    # "each next x is demand(i, x). Rounds is the smallest k >= 1 with x_k = x_(k-1) or
+    # x_k + J_i > D_i."
+    rounds, before = 1, first_term(start, base, loads)
+    after = demand(base, loads, before)
     while after != before and after + task.latest <= task.deadline:
         rounds, before = rounds + 1, after
-        after = demand(base, urgent_tasks, before)
-    return rounds
+        after = demand(base, loads, before)
+    return Sequence(rounds, before, after)
 
 
-def outcome_of(task, tasks, rows):
-    base = task.cost + blocking_of(task, tasks, rows)
-    urgent_tasks = more_urgent_than(task, tasks)
-    window = skipping_search(base, urgent_tasks, task.deadline)
-    return Outcome(response_of(task, window), count_rounds(task, base, urgent_tasks))
-
-
-def outcomes_of(tasks, rows):
-    return [outcome_of(task, tasks, rows) for task in tasks]
+def rounds_of(tasks, rows, start=DEFAULT_START):
+    return [sequence_from(start, task, *parts_of(task, tasks, rows)).rounds for task in tasks]
 
 
 # ---------------------------------------------------------------------------
 # The program's text
 # ---------------------------------------------------------------------------
 
-def task_line(place, task, outcome):
-    word = "response %d" % outcome.response if outcome.response else "late"
-    return "%d %s deadline %d rounds %d" % (place, word, task.deadline, outcome.rounds)
+def task_line(place, task, response, rounds):
+    word = "response %d" % response if response else "late"
+    return "%d %s deadline %d rounds %d" % (place, word, task.deadline, rounds)
 
 
 def verdict_line(responses):
@@ -301,18 +338,28 @@ def verdict_line(responses):
     return "late %d" % late_places[0] if late_places else "schedulable"
 
 
-def text_of(data, answers_length=MOST_TASKS, rounds_length=MOST_TASKS):
-    """What the program prints for these bytes; each line ends with a newline."""
+def text_of(data, answers_length=MOST_TASKS, rounds_length=MOST_TASKS, start=DEFAULT_START):
+    """What the program prints for these bytes, which has the default start alone; each line ends
+    with a newline."""
     try:
         tasks, rows = read_table(data, answers_length, rounds_length)
     except Refused as refusal:
         return "%s\n" % refusal
-    outcomes = outcomes_of(tasks, rows)
+    responses = responses_of(tasks, rows)
     lines = ["tasks %d" % len(tasks)]
-    lines += [task_line(place, task, outcome)
-              for place, (task, outcome) in enumerate(zip(tasks, outcomes))]
-    lines.append(verdict_line([outcome.response for outcome in outcomes]))
+    lines += map(task_line, itertools.count(), tasks, responses, rounds_of(tasks, rows, start))
+    lines.append(verdict_line(responses))
     return "".join(line + "\n" for line in lines)
+
+
+def own_cost_line(entry):
+    """The rounds from document 01's start; none for a refused table."""
+    try:
+        tasks, rows = read_table(*entry)
+    except Refused:
+        return "own cost"
+    return " ".join(["own cost"] + [str(rounds)
+                                    for rounds in rounds_of(tasks, rows, Start.OWN_COST)])
 
 
 # ---------------------------------------------------------------------------
@@ -372,12 +419,13 @@ def listed_rows(*entries):
 # Document 01's worked tables, in its order
 # ---------------------------------------------------------------------------
 
-Worked = collections.namedtuple("Worked", "tasks rows responses rounds blocking")
+Worked = collections.namedtuple("Worked", "tasks rows responses rounds own_rounds blocking")
 
 
-def worked(tasks, responses, rows=(), rounds=None, blocking=None):
-    """Rounds and blocking are None where document 01 prints none."""
-    return Worked(listed(*tasks), listed_rows(*rows), responses, rounds, blocking)
+def worked(tasks, responses, rows=(), rounds=None, own_rounds=None, blocking=None):
+    """Rounds are those from the default start, worked out by hand; own rounds are those from
+    document 01's start. These and blocking are None where document 01 prints none."""
+    return Worked(listed(*tasks), listed_rows(*rows), responses, rounds, own_rounds, blocking)
 
 
 FIFTH = ((4, 1, 4), (6, 2, 6), (10, 3, 10))
@@ -385,25 +433,37 @@ SECTIONS = ((10, 2, 5), (20, 3, 12), (40, 10, 40), (100, 4, 50))
 SECTION_ROWS = ((1, 1, 1), (1, 2, 1), (2, 2, 5), (3, 1, 2))
 
 WORKED_TABLES = [
-    worked([(1, 1, 1)], [1]),
-    worked([(9, 5, 5)], [5]),
-    worked([(9, 6, 5)], [0]),
-    worked([(2, 1, 2), (6, 3, 6)], [1, 6]),
-    worked(FIFTH, [1, 3, 10], rounds=[1, 2, 5]),
-    worked([(3, 1, 3), (5, 1, 5), (6, 1, 6), (10, 2, 10)], [1, 2, 3, 9]),
-    worked([(10, 1, 3), (6, 2, 4), (5, 1, 5)], [1, 3, 4]),
-    worked([(5, 1, 5), (6, 2, 4), (10, 1, 3)], [1, 3, 0]),
-    worked([(6, 4, 6), (12, 4, 12)], [4, 12]),
-    worked([(6, 3, 6), (12, 8, 12)], [3, 0]),
-    worked([(30, 10, 20, 10), (1000, 15, 25)], [20, 0], rounds=[1, 2]),
-    worked([(30, 10, 20), (1000, 15, 25)], [10, 25]),
-    worked(SECTIONS, [2, 10, 19, 26], rows=SECTION_ROWS, blocking=[0, 5, 2, 0]),
+    worked([(1, 1, 1)], [1], rounds=[1]),
+    worked([(9, 5, 5)], [5], rounds=[1]),
+    worked([(9, 6, 5)], [0], rounds=[1]),
+    worked([(2, 1, 2), (6, 3, 6)], [1, 6], rounds=[1, 3]),
+    # "the fifth table of 01 gives 4 for its last task": 6, 7, 9, 10, 10.
+    worked(FIFTH, [1, 3, 10], rounds=[1, 1, 4], own_rounds=[1, 2, 5]),
+    worked([(3, 1, 3), (5, 1, 5), (6, 1, 6), (10, 2, 10)], [1, 2, 3, 9], rounds=[1, 1, 1, 4]),
+    worked([(10, 1, 3), (6, 2, 4), (5, 1, 5)], [1, 3, 4], rounds=[1, 1, 1]),
+    worked([(5, 1, 5), (6, 2, 4), (10, 1, 3)], [1, 3, 0], rounds=[1, 1, 1]),
+    worked([(6, 4, 6), (12, 4, 12)], [4, 12], rounds=[1, 2]),
+    worked([(6, 3, 6), (12, 8, 12)], [3, 0], rounds=[1, 1]),
+    worked([(30, 10, 20, 10), (1000, 15, 25)], [20, 0], rounds=[1, 1], own_rounds=[1, 2]),
+    worked([(30, 10, 20), (1000, 15, 25)], [10, 25], rounds=[1, 1]),
+    worked(SECTIONS, [2, 10, 19, 26], rows=SECTION_ROWS, rounds=[1, 1, 2, 3],
+           blocking=[0, 5, 2, 0]),
     worked([(40, 12, 40), (50, 6, 50), (100, 10, 100)], [13, 19, 28],
-           rows=((0, 1, 2), (0, 2, 1), (1, 1, 1), (2, 1, 1)), blocking=[1, 1, 0]),
-    worked([(1, 1, 1), (1000000, 1, 1000000)], [1, 0], rounds=[1, 1000000]),
+           rows=((0, 1, 2), (0, 2, 1), (1, 1, 1), (2, 1, 1)), rounds=[1, 1, 1],
+           blocking=[1, 1, 0]),
+    worked([(1, 1, 1), (1000000, 1, 1000000)], [1, 0], rounds=[1, 999999],
+           own_rounds=[1, 1000000]),
 ]
 
+# What the program prints; and document 01's own texts, which have the rounds from its start.
 FIFTH_TEXT = """tasks 3
+0 response 1 deadline 4 rounds 1
+1 response 3 deadline 6 rounds 1
+2 response 10 deadline 10 rounds 4
+schedulable
+"""
+
+FIFTH_OWN_TEXT = """tasks 3
 0 response 1 deadline 4 rounds 1
 1 response 3 deadline 6 rounds 2
 2 response 10 deadline 10 rounds 5
@@ -411,6 +471,12 @@ schedulable
 """
 
 LATE_TEXT = """tasks 2
+0 response 20 deadline 20 rounds 1
+1 late deadline 25 rounds 1
+late 1
+"""
+
+LATE_OWN_TEXT = """tasks 2
 0 response 20 deadline 20 rounds 1
 1 late deadline 25 rounds 2
 late 1
@@ -579,9 +645,10 @@ class Generator:
 
 
 def loads_of(tasks, rows):
-    """How many times a program that does document 01's rounds works out one load."""
-    return sum(place * outcome.rounds
-               for place, outcome in enumerate(outcomes_of(tasks, rows)))
+    """How many times a program that does document 01's rounds works out one load. From the default
+    start there are no more."""
+    return sum(place * rounds
+               for place, rounds in enumerate(rounds_of(tasks, rows, Start.OWN_COST)))
 
 
 def exact_entry(data):
@@ -706,7 +773,7 @@ def deadline_entries(generator, how_many, version=1):
         tasks, rows = any_small_table(generator, version)
         for place, task in enumerate(tasks):
             relaxed = task._replace(deadline=task.period)
-            response = outcome_of(relaxed, tasks, rows).response
+            response = response_of(relaxed, tasks, rows)
             if response:
                 wanted = response + generator.between(-1, 1)
                 tasks[place] = task._replace(deadline=max(1, min(wanted, task.period)))
@@ -1188,7 +1255,7 @@ def queue_entries(generator, how_many):
                  for period in generator.sample(range(4, 30), generator.between(1, 4))]
         last = [(1000, generator.between(1, 20), 1000)] * generator.between(1, 2)
         tasks = listed(long, *(short + last))
-        if outcomes_of(tasks, [])[-1].response and loads_of(tasks, []) <= MOST_LOADS:
+        if responses_of(tasks, [])[-1] and loads_of(tasks, []) <= MOST_LOADS:
             how_many -= 1
             yield answered_entry(generator, tasks, [])
 
@@ -1199,7 +1266,7 @@ def first_end_entries(generator, how_many):
         tasks = plain_tasks(generator, generator.between(1, 6), generator.pick([12, 40, 300]))
         for place, task in enumerate(tasks):
             relaxed = task._replace(deadline=task.period)
-            response = outcome_of(relaxed, tasks, []).response
+            response = response_of(relaxed, tasks, [])
             tasks[place] = task._replace(deadline=response or task.period)
         late = generator.below(len(tasks))
         if tasks[late].deadline > 1 and is_schedulable(tasks, []):
@@ -1538,30 +1605,33 @@ def place_entries(generator):
 # 01's jitter table "With delays 10 and 10 on its first task" is the first; all are worked out by
 # hand.
 DELAY_TABLES = [
-    worked([(30, 10, 20, 10, 10), (1000, 15, 25)], [20, 25], rounds=[1, 2]),
+    worked([(30, 10, 20, 10, 10), (1000, 15, 25)], [20, 25], rounds=[1, 1], own_rounds=[1, 2]),
     # As version 1 has it.
-    worked([(30, 10, 20, 0, 10), (1000, 15, 25)], [20, 0], rounds=[1, 2]),
+    worked([(30, 10, 20, 0, 10), (1000, 15, 25)], [20, 0], rounds=[1, 1], own_rounds=[1, 2]),
     # 25 + 5 is 30, which divides evenly; with one tick more a second job counts.
-    worked([(30, 10, 20, 5, 10), (1000, 15, 25)], [20, 25], rounds=[1, 2]),
-    worked([(30, 10, 20, 4, 10), (1000, 15, 25)], [20, 0], rounds=[1, 2]),
+    worked([(30, 10, 20, 5, 10), (1000, 15, 25)], [20, 25], rounds=[1, 1], own_rounds=[1, 2]),
+    worked([(30, 10, 20, 4, 10), (1000, 15, 25)], [20, 0], rounds=[1, 1], own_rounds=[1, 2]),
     # To a task's own answer the latest is added whole, whatever the earliest is.
-    worked([(30, 10, 20, 10, 10), (1000, 15, 30, 5, 5)], [20, 30], rounds=[1, 2]),
-    worked([(30, 10, 20, 10, 10), (1000, 15, 30, 0, 5)], [20, 30], rounds=[1, 2]),
-    worked([(30, 10, 20, 10, 10), (1000, 15, 29, 5, 5)], [20, 0], rounds=[1, 1]),
-    worked([(10, 4, 10, 6, 6)], [10], rounds=[1]),
-    worked([(10, 4, 10, 7, 7)], [0], rounds=[1]),
-    worked([(10, 4, 10, 0, 7)], [0], rounds=[1]),
+    worked([(30, 10, 20, 10, 10), (1000, 15, 30, 5, 5)], [20, 30], rounds=[1, 1],
+           own_rounds=[1, 2]),
+    worked([(30, 10, 20, 10, 10), (1000, 15, 30, 0, 5)], [20, 30], rounds=[1, 1],
+           own_rounds=[1, 2]),
+    worked([(30, 10, 20, 10, 10), (1000, 15, 29, 5, 5)], [20, 0], rounds=[1, 1],
+           own_rounds=[1, 1]),
+    worked([(10, 4, 10, 6, 6)], [10], rounds=[1], own_rounds=[1]),
+    worked([(10, 4, 10, 7, 7)], [0], rounds=[1], own_rounds=[1]),
+    worked([(10, 4, 10, 0, 7)], [0], rounds=[1], own_rounds=[1]),
     # Delays above the deadline, above the period, and the greatest.
     worked([(10, 1, 10, 0, 11), (20, 1, 20, 1000000, 1000000), (40, 4, 40, 3, 4)], [0, 0, 11],
-           rounds=[1, 1, 2]),
+           rounds=[1, 1, 2], own_rounds=[1, 1, 2]),
     # With sections.
     worked([(10, 2, 5, 1, 3)] + list(SECTIONS[1:]), [5, 12, 24, 26], rows=SECTION_ROWS,
-           rounds=[1, 3, 4, 4], blocking=[0, 5, 2, 0]),
+           rounds=[1, 2, 4, 3], own_rounds=[1, 3, 4, 4], blocking=[0, 5, 2, 0]),
 ]
 
 DELAYS_TEXT = """tasks 2
 0 response 20 deadline 20 rounds 1
-1 response 25 deadline 25 rounds 2
+1 response 25 deadline 25 rounds 1
 schedulable
 """
 
@@ -1778,6 +1848,215 @@ def delay_entries(generator):
         yield exact_entry(data)
 
 
+# ---------------------------------------------------------------------------
+# Made tables for the two starts
+# ---------------------------------------------------------------------------
+
+# All worked out by hand.
+START_TABLES = [
+    # Each round adds one tick: as many rounds as each start's bound allows, and late.
+    worked([(1, 1, 1), (5, 1, 5)], [1, 0], rounds=[1, 4], own_rounds=[1, 5]),
+    worked([(1, 1, 1), (60, 1, 50, 0, 7)], [1, 0], rounds=[1, 42], own_rounds=[1, 43]),
+    # The same in time: 3, 4, 4; then 4, 5, 6, 7, 8, 9, 10, 10.
+    worked([(2, 1, 2), (4, 2, 4)], [1, 4], rounds=[1, 2], own_rounds=[1, 3]),
+    worked([(2, 1, 2), (5, 1, 5), (7, 1, 7), (10, 1, 10)], [1, 2, 4, 10], rounds=[1, 1, 2, 7],
+           own_rounds=[1, 2, 3, 8]),
+    # 4 and 5 are 9: the start is late by itself, though the task's own cost is not; with one tick
+    # more it is in time, and the solution.
+    worked([(10, 5, 10), (20, 4, 8)], [5, 0], rounds=[1, 1], own_rounds=[1, 1]),
+    worked([(10, 5, 10), (20, 4, 9)], [5, 9], rounds=[1, 1], own_rounds=[1, 2]),
+    # The latest delay counts there too.
+    worked([(10, 5, 10), (20, 4, 11, 2, 3)], [5, 0], rounds=[1, 1], own_rounds=[1, 1]),
+    worked([(10, 5, 10), (20, 4, 12, 2, 3)], [5, 12], rounds=[1, 1], own_rounds=[1, 2]),
+    # Blocking is the larger part of the start, and is not carried on to the next task.
+    worked([(30, 2, 30), (60, 3, 60), (100, 20, 100)], [17, 20, 25], rows=((0, 1, 1), (2, 1, 15)),
+           rounds=[1, 1, 1], own_rounds=[1, 2, 2], blocking=[15, 15, 0]),
+    # Delays let two jobs in at once, and one counts: 7, 11, 13, 13, and not 9 or 11.
+    worked([(10, 2, 10, 0, 20), (100, 5, 100)], [0, 13], rounds=[1, 3], own_rounds=[1, 3]),
+    # A late task counts as any other; a less urgent one does not.
+    worked([(5, 9, 5), (60, 1, 60)], [0, 0], rounds=[1, 3], own_rounds=[1, 4]),
+    worked([(10, 1, 1), (1000000, 1000000, 1000000)], [1, 0], rounds=[1, 1], own_rounds=[1, 1]),
+]
+
+
+def lone_entries(generator, how_many, version):
+    """A single task: both starts are one."""
+    for _ in range(how_many):
+        row_count = generator.pick([0, 0, 2])
+        yield answered_entry(generator, *made_table(generator, 1, row_count, 60, version), version)
+
+
+def settled_entries(generator, how_many, version):
+    """The start is the solution: nothing is released twice before the last task is done."""
+    for _ in range(how_many):
+        costs = [generator.between(1, 30) for _ in range(generator.between(2, 8))]
+        latest = generator.pick([0, generator.between(0, 40)])
+        earliest = generator.between(0, latest) if version == 2 else 0
+        # The costs, a blocking that is no longer than they are, and a delay with its spread.
+        least = 2 * sum(costs) + 2 * latest
+        periods = [least + generator.below(50) for _ in costs]
+        tasks = listed(*[(period, cost, period, earliest, latest)
+                         for period, cost in zip(periods, costs)])
+        rows = made_rows(generator, tasks, generator.between(0, len(tasks)))
+        yield answered_entry(generator, tasks, rows, version)
+
+
+def with_deadline(task, deadline):
+    """Its period is made longer where it has to be."""
+    return task._replace(period=max(task.period, deadline), deadline=deadline)
+
+
+def about_starts(generator, how_many, version):
+    """A task's deadline at both its starts, one tick before them and one after."""
+    for _ in range(how_many):
+        count, scale = generator.between(2, 6), generator.pick([12, 40, 300])
+        tasks, rows = made_table(generator, count, generator.between(0, 4), scale, version)
+        place = generator.between(1, count - 1)
+        task = tasks[place]._replace(latest=min(tasks[place].latest, 1000),
+                                     earliest=min(tasks[place].earliest, 1000))
+        for start in Start:
+            first = first_term(start, *parts_of(task, tasks, rows))
+            for deadline in range(first + task.latest - 1, first + task.latest + 2):
+                tasks[place] = with_deadline(task, max(1, deadline))
+                if loads_of(tasks, rows) <= MOST_LOADS:
+                    yield answered_entry(generator, tasks, rows, version)
+
+
+def blocked_task(generator, section, version):
+    period, cost = generator.between(section, 6 * section), generator.between(1, 20)
+    return (period, cost, period) + made_delays(generator, period, period, version)
+
+
+def blocked_entries(generator, how_many, version):
+    """A long section of the least urgent task blocks all others, and is the larger part of their
+    starts."""
+    for _ in range(how_many):
+        section = generator.between(50, 300)
+        blocked = [blocked_task(generator, section, version)
+                   for _ in range(generator.between(1, 5))]
+        tasks = listed(*blocked, (6 * section, section + generator.below(20), 6 * section))
+        rows = listed_rows((0, 1, 1), (len(blocked), 1, section))
+        if loads_of(tasks, rows) <= MOST_LOADS:
+            yield answered_entry(generator, tasks, rows, version)
+
+
+def crowding_task(generator, version):
+    """Its delays let several jobs in at once."""
+    period = generator.between(5, 30)
+    spread = generator.between(period, 5 * period)
+    earliest = generator.below(20) if version == 2 else 0
+    return period, generator.between(1, 3), period, earliest, earliest + spread
+
+
+def crowding_entries(generator, how_many, version):
+    for _ in range(how_many):
+        crowding = [crowding_task(generator, version) for _ in range(generator.between(1, 3))]
+        others = [(period, generator.between(1, 20), period)
+                  for period in generator.sample(range(200, 2000), generator.between(1, 3))]
+        tasks = listed(*(crowding + others))
+        if loads_of(tasks, []) <= MOST_LOADS:
+            yield answered_entry(generator, tasks, [], version)
+
+
+def saving_entries(generator, how_many, version, saved):
+    """Schedulable, and for each task but the first so many rounds are saved: 1, or 0 although the
+    starts differ."""
+    while how_many:
+        count, scale = generator.between(2, 5), generator.pick([12, 40, 300])
+        tasks, rows = made_table(generator, count, generator.below(4), scale, version)
+        pairs = zip(rounds_of(tasks, rows, Start.OWN_COST), rounds_of(tasks, rows))
+        savings = [own - default for own, default in pairs]
+        if savings[1:] == [saved] * (count - 1) and is_schedulable(tasks, rows):
+            how_many -= 1
+            yield answered_entry(generator, tasks, rows, version)
+
+
+def exact_deadline_entries(generator, how_many, version):
+    """Each deadline is the answer; then one of them is one tick short of it."""
+    while how_many:
+        tasks, rows = any_small_table(generator, version)
+        relaxed = [task._replace(deadline=task.period) for task in tasks]
+        responses = responses_of(relaxed, rows)
+        if not all(responses) or loads_of(relaxed, rows) > MOST_LOADS:
+            continue
+        how_many -= 1
+        tasks = [task._replace(deadline=response) for task, response in zip(tasks, responses)]
+        yield answered_entry(generator, tasks, rows, version)
+        short = generator.below(len(tasks))
+        tasks[short] = tasks[short]._replace(deadline=max(1, responses[short] - 1))
+        yield answered_entry(generator, tasks, rows, version)
+
+
+def start_size_entries(generator):
+    """Every n from 1 to 32, and some m up to 64, in turn in both versions."""
+    for count in range(1, MOST_TASKS + 1):
+        version = 1 + count % 2
+        row_count = generator.between(0, min(8, 2 * count))
+        tasks, rows = made_table(generator, count, row_count, 50 * count, version)
+        yield answered_entry(generator, tasks, rows, version)
+    for version, row_count in itertools.product(LAYOUTS, (16, 33, 63, MOST_ROWS)):
+        tasks, rows = made_table(generator, 8, row_count, 400, version)
+        yield answered_entry(generator, tasks, rows, version)
+    for version in LAYOUTS:
+        tasks, rows = made_table(generator, MOST_TASKS, MOST_ROWS, GREATEST_TICKS, version)
+        yield answered_entry(generator, tasks, rows, version)
+
+
+def bound_tables():
+    """Each round adds one tick, up to deadlines of several lengths."""
+    for deadline in (1, 2, 3, 40, 300):
+        yield Draft(listed((1, 1, 1), (deadline, 1, deadline))).data()
+    for delays in ((0, 9), (9, 9), (4, 9)):
+        yield Draft(listed((1, 1, 1), (200, 1, 100) + delays, (300, 1, 300)), version=2).data()
+    yield Draft(listed((2, 1, 2), (3, 1, 3), (6, 1, 6))).data()
+    yield Draft(listed((3, 1, 3), (7, 1, 7), (8, 1, 8), (11, 3, 11))).data()
+
+
+def greatest_start_tables():
+    """The greatest starts; and starts that are 1,000,000 ticks, with the delay, or one more."""
+    top = GREATEST_TICKS
+    rows = [Row(place, semaphore, top) for place in range(MOST_TASKS - 4, MOST_TASKS)
+            for semaphore in range(1, GREATEST_SEMAPHORE + 1)]
+    for version, latest in itertools.product(LAYOUTS, (0, top)):
+        whole = listed(*[(top, top, top, 0, latest)] * MOST_TASKS)
+        yield Draft(whole, version=version).data()
+        yield Draft(whole, rows, version).data()
+    for latest, more in itertools.product((0, 64000), (0, 1)):
+        share = (top - latest) // MOST_TASKS
+        shares = [(top, share, top, latest // 2, latest)] * (MOST_TASKS - 1)
+        yield Draft(listed(*shares, (top, share + more, top, 0, latest)), version=2).data()
+        # The last but one has the last one's section for the last one's cost.
+        sections = listed_rows((0, 1, 1), (MOST_TASKS - 1, 1, share + more))
+        yield Draft(listed(*shares, (top, top, top, 0, 0)), sections, 2).data()
+
+
+def start_slice_entries():
+    data = Draft(listed(*FIFTH)).data()
+    for lengths in ((0, 0), (2, 3), (3, 2), (3, LONGEST_SLICE), (LONGEST_SLICE, 3)):
+        yield Entry(data, *lengths)
+
+
+def start_entries(generator):
+    for table, version in itertools.product(START_TABLES, LAYOUTS):
+        tasks = table.tasks
+        if version == 1:
+            tasks = [task._replace(earliest=0) for task in tasks]
+        yield exact_entry(Draft(tasks, table.rows, version).data())
+    for version in LAYOUTS:
+        yield from lone_entries(generator, 4, version)
+        yield from settled_entries(generator, 10, version)
+        yield from about_starts(generator, 6, version)
+        yield from blocked_entries(generator, 12, version)
+        yield from crowding_entries(generator, 14, version)
+        yield from saving_entries(generator, 6, version, 0)
+        yield from saving_entries(generator, 6, version, 1)
+        yield from exact_deadline_entries(generator, 10, version)
+    yield from start_size_entries(generator)
+    for data in itertools.chain(bound_tables(), greatest_start_tables()):
+        yield exact_entry(data)
+    yield from start_slice_entries()
+
+
 SEED = 20240101
 
 
@@ -1793,6 +2072,7 @@ def all_entries():
     yield from engine_entries(Generator(SEED + 3))
     yield from place_entries(Generator(SEED + 5))
     yield from delay_entries(Generator(SEED + 6))
+    yield from start_entries(Generator(SEED + 7))
 
 
 def entry_bytes(entry):
@@ -1802,7 +2082,8 @@ def entry_bytes(entry):
 
 
 def entry_text(number, entry):
-    return "table %d\n%sstayed\nengine %s\n" % (number, text_of(*entry), engine_line(entry))
+    return "table %d\n%sstayed\nengine %s\n%s\n" % (number, text_of(*entry), engine_line(entry),
+                                                     own_cost_line(entry))
 
 
 # ---------------------------------------------------------------------------
@@ -1988,12 +2269,15 @@ def refusal_of(entry):
 
 
 def check_printed(checks, table, name):
-    """Responses, rounds and blocking, where the documents print them."""
-    outcomes = outcomes_of(table.tasks, table.rows)
+    """Responses, rounds from both starts and blocking, where the documents print them or they were
+    worked out by hand."""
     if table.responses:
-        checks.same([outcome.response for outcome in outcomes], table.responses, name)
+        checks.same(responses_of(table.tasks, table.rows), table.responses, name)
     if table.rounds:
-        checks.same([outcome.rounds for outcome in outcomes], table.rounds, name + " rounds")
+        checks.same(rounds_of(table.tasks, table.rows), table.rounds, name + " rounds")
+    if table.own_rounds:
+        checks.same(rounds_of(table.tasks, table.rows, Start.OWN_COST), table.own_rounds,
+                    name + " rounds from own cost")
     if table.blocking:
         blocking = [blocking_of(task, table.tasks, table.rows) for task in table.tasks]
         checks.same(blocking, table.blocking, name + " blocking")
@@ -2007,20 +2291,25 @@ def check_documents(checks):
     last_of = {((7, 3, 7), (12, 3, 12), (20, 5, 20)): 20, ((2, 1, 2), (5, 2, 4)): 4}
     for entries, response in last_of.items():
         tasks = listed(*entries)
-        checks.same(outcomes_of(tasks, [])[-1].response, response, "002's %r" % (entries,))
-    checks.same(text_of(Draft(listed(*FIFTH)).data()), FIFTH_TEXT, "fifth table's text")
-    late = WORKED_TABLES[10]
-    checks.same(text_of(Draft(late.tasks).data()), LATE_TEXT, "late table's text")
+        checks.same(responses_of(tasks, [])[-1], response, "002's %r" % (entries,))
+    for number, text, own_text in ((4, FIFTH_TEXT, FIFTH_OWN_TEXT),
+                                   (10, LATE_TEXT, LATE_OWN_TEXT)):
+        data = Draft(WORKED_TABLES[number].tasks).data()
+        checks.same(text_of(data), text, "text of worked table %d" % number)
+        checks.same(text_of(data, start=Start.OWN_COST), own_text,
+                    "document 01's text of worked table %d" % number)
     for number, table in enumerate(DELAY_TABLES):
         check_printed(checks, table, "table %d with delays" % number)
+    for number, table in enumerate(START_TABLES):
+        check_printed(checks, table, "table %d for the starts" % number)
     delayed = Draft(DELAY_TABLES[0].tasks, version=2).data()
     checks.same(text_of(delayed), DELAYS_TEXT, "text of the table with delays")
     # "at most 933"; and the program takes one byte more than the longest of all.
     lengths = [longest_table(version) for version in LAYOUTS] + [MOST_BYTES_TAKEN]
     checks.same(lengths, [933, 1061, 1062], "longest tables")
     for number, data in enumerate(wrapping_tables()):
-        last = outcomes_of(*read_table(data, MOST_TASKS, MOST_TASKS))[-1]
-        checks.same(last.response, 0, "wrapping table %d" % number)
+        responses = responses_of(*read_table(data, MOST_TASKS, MOST_TASKS))
+        checks.same(responses[-1], 0, "wrapping table %d" % number)
     edges = itertools.chain(edge_tables(), place_edges(), delay_edges(), version_edges())
     for number, (data, wanted) in enumerate(edges):
         text = text_of(data)
@@ -2063,22 +2352,50 @@ def check_faults(checks):
 
 
 def check_searches(checks, tasks, rows):
-    """The plain search and the skipping one, the sequence's end, and the bound on rounds."""
+    """The plain search and the skipping one."""
     for place, task in enumerate(tasks):
-        base = task.cost + blocking_of(task, tasks, rows)
-        urgent_tasks = more_urgent_than(task, tasks)
-        plain = plain_search(base, urgent_tasks, task.deadline)
-        skipping = skipping_search(base, urgent_tasks, task.deadline)
-        checks.same(skipping, plain, "search of task %d of %r" % (place, tasks))
-        # "rounds is at most D_i - J_i - x0 + 1 when x0 + J_i <= D_i, and is 1 otherwise", with the
-        # latest for J_i
-        rounds = count_rounds(task, base, urgent_tasks)
-        bound = max(1, task.deadline - task.latest - base + 1)
-        checks.same(1 <= rounds <= bound, True, "rounds of task %d of %r" % (place, tasks))
+        parts = parts_of(task, tasks, rows)
+        checks.same(skipping_search(*parts, task.deadline), plain_search(*parts, task.deadline),
+                    "search of task %d of %r" % (place, tasks))
+
+
+def rounds_bound(start, task, base, loads):
+    # "rounds is at most D_i - J_i - x0 + 1 when x0 + J_i <= D_i, and is 1 otherwise", with the
+    # latest for J_i; and "The bound on rounds speaks of the start used."
+    first = first_term(start, base, loads)
+    if first + task.latest > task.deadline:
+        return 1
+    return task.deadline - task.latest - first + 1
+
+
+def check_starts(checks, tasks, rows):
+    """The answer can be read off the sequence from each start, and each start's bound holds; the
+    default start saves one round or none. Gives the starts from which some task's rounds are as
+    many as a bound above 1 allows."""
+    reached = set()
+    for place, task in enumerate(tasks):
+        what = "task %d of %r" % (place, tasks)
+        parts = parts_of(task, tasks, rows)
+        response = answer_at(task, skipping_search(*parts, task.deadline))
+        rounds = {}
+        for start in Start:
+            sequence = sequence_from(start, task, *parts)
+            end = sequence.after if sequence.after == sequence.before else None
+            checks.same(answer_at(task, end), response, "%s of %s" % (start, what))
+            rounds[start] = sequence.rounds
+            bound = rounds_bound(start, task, *parts)
+            checks.same(1 <= sequence.rounds <= bound, True, "bound from %s of %s" % (start, what))
+            if sequence.rounds == bound > 1:
+                reached.add(start)
+        # The second term from the task's own cost and blocking has at least one job of every more
+        # urgent task, so that it is not before the first one from every cost.
+        saved = rounds[Start.OWN_COST] - rounds[Start.EVERY_COST]
+        checks.same(saved in (0, 1), True, "rounds saved of %s" % what)
+    return reached
 
 
 def check_random_runs(checks, generator, tasks):
-    responses = [outcome.response for outcome in outcomes_of(tasks, [])]
+    responses = responses_of(tasks, [])
     ticks = 4 * max(task.period for task in tasks) + 20
     for _ in range(12):
         jobs = random_run(generator, tasks, ticks)
@@ -2088,10 +2405,8 @@ def check_random_runs(checks, generator, tasks):
 def check_run_together(checks, tasks):
     # "some run ... has such a job unfinished at r + R - 1", and for answer 0 "some run has a job
     # with r + D <= N unfinished at r + D": the run released together is such a run.
-    for place, outcome in enumerate(outcomes_of(tasks, [])):
-        deadline = tasks[place].deadline
-        wanted = outcome.response if outcome.response else None
-        checks.same(first_finish(tasks, place, deadline), wanted,
+    for place, response in enumerate(responses_of(tasks, [])):
+        checks.same(first_finish(tasks, place, tasks[place].deadline), response or None,
                     "task %d of %r released together" % (place, tasks))
 
 
@@ -2141,7 +2456,7 @@ def check_delayed_runs(checks):
         count, scale = generator.between(1, 4), generator.pick([4, 8, 15, 30])
         tasks = [task._replace(earliest=min(task.earliest, 50), latest=min(task.latest, 50))
                  for task in made_tasks(generator, count, scale, 2)]
-        responses = [outcome.response for outcome in outcomes_of(tasks, [])]
+        responses = responses_of(tasks, [])
         ticks = 4 * scale + 60
         for _ in range(6):
             arrivals, jobs = released_with_delays(generator, tasks, ticks)
@@ -2176,9 +2491,9 @@ def moved_place(refusal, task_count):
     return number, 5 + 21 * record + (17 if at == 13 else at)
 
 
-def check_both_versions(checks):
+def check_both_versions(checks, entries):
     # "Version 1 tables read with earliest 0 and keep their answers."
-    for number, entry in enumerate(all_entries()):
+    for number, entry in enumerate(entries):
         refusal = refusal_of(entry)
         if entry.table[:1] != b"\x01" or refusal and refusal[0] < 5:
             continue
@@ -2235,37 +2550,39 @@ def check_engine_edges(checks):
         checks.same(engine_line(entry), wanted, "engine with delays 10 and 10")
 
 
-def check_engine(checks):
-    """Wherever the engine takes a table, its answers are the equation's. Gives how many it takes,
-    and of how many entries."""
-    taken = number = 0
-    for number, entry in enumerate(all_entries(), 1):
+def check_engine(checks, entries):
+    """Wherever the engine takes a table, its answers are the equation's. Gives how many it
+    takes."""
+    taken = 0
+    for number, entry in enumerate(entries):
         try:
             tasks = read_playable(entry)
         except Refused:
             continue
         taken += 1
-        responses = [outcome.response for outcome in outcomes_of(tasks, [])]
-        checks.same(played_answers(tasks), responses, "engine on entry %d" % (number - 1))
-    return taken, number
+        checks.same(played_answers(tasks), responses_of(tasks, []), "engine on entry %d" % number)
+    return taken
 
 
 LONGEST_PLAIN_DEADLINE = 3000
 LONGEST_PLAYED_DEADLINE = 400
 
 
-def check_entries(checks):
-    """All tables that "make" writes: both searches, and the run released together."""
-    for entry in all_entries():
+def check_entries(checks, entries):
+    """All tables that "make" writes: both starts, both searches, and the run released together."""
+    reached = set()
+    for entry in entries:
         if refusal_of(entry):
             continue
         tasks, rows = read_table(*entry)
+        reached |= check_starts(checks, tasks, rows)
         longest = max(task.deadline for task in tasks)
         if longest <= LONGEST_PLAIN_DEADLINE:
             check_searches(checks, tasks, rows)
         if longest <= LONGEST_PLAYED_DEADLINE and not rows and not any(
                 task.latest for task in tasks):
             check_run_together(checks, tasks)
+    checks.same(reached, set(Start), "starts from which a bound is reached")
 
 
 # ---------------------------------------------------------------------------
@@ -2297,7 +2614,7 @@ def loaded_rows(tasks, count):
 
 
 def is_schedulable(tasks, rows):
-    return all(outcome.response for outcome in outcomes_of(tasks, rows))
+    return all(responses_of(tasks, rows))
 
 
 def with_delays(tasks):
@@ -2349,13 +2666,13 @@ def crowded_table(periods):
 
 def most_loads_table():
     """The table with the most loads that a search over short periods of the first tasks found:
-    42,724,053, where (1,1,1) above 31 tasks like the last ones has 31,000,252. It was the slowest
-    while every load took a divide."""
+    42,723,557, where (1,1,1) above 31 tasks like the last ones has 30,999,756. It was the slowest
+    while every load took a divide. (From document 01's start each has 496 more.)"""
     return crowded_table((3, 11, 2, 14, 232))
 
 
 def slowest_table():
-    """The greatest cost that a search over the periods found: 41,778,937 loads. In 22,860,538 of
+    """The greatest cost that a search over the periods found: 41,778,441 loads. In 22,860,538 of
     them the window is longer than the period, so that they need a divide (document 02, L2)."""
     return crowded_table((2, 11, 236, 3, 14, 136041, 32704, 57648, 167220, 143363, 185372, 221486))
 
@@ -2471,18 +2788,20 @@ def command_make(arguments):
 
 def command_check(_arguments):
     checks = Checks()
+    entries = list(all_entries())
     check_documents(checks)
     check_faults(checks)
-    check_entries(checks)
-    check_both_versions(checks)
+    check_entries(checks, entries)
+    check_both_versions(checks, entries)
     check_runs(checks)
     check_delayed_runs(checks)
     check_event_playing(checks)
     check_engine_edges(checks)
-    taken = check_engine(checks)
+    taken = check_engine(checks, entries)
     if checks.failed:
         sys.exit("reference: %d of %d checks failed" % (checks.failed, checks.done))
-    print("reference: %d checks; the engine takes %d of %d tables" % ((checks.done,) + taken))
+    print("reference: %d checks; the engine takes %d of %d tables"
+          % (checks.done, taken, len(entries)))
 
 
 def command_classes(arguments):
@@ -2510,11 +2829,12 @@ words of the slice lent for answers; 1 byte with that of the slice lent for roun
 table's bytes. Both slices are lent filled with the word %d (0x%X).
 
 "expected" holds for each entry K, counted from 0, a line "table K", the program's text for it,
-a line "stayed", and a line "engine" with the engine's verdict or refusal; the engine is lent a
-slice of as many words as that for answers. (A program under test prints "changed" instead of
-"stayed" if a word past n, or any word on a refusal, is no longer the filler; and a further line
-"differs" if the engine's verdict or words are not the analysis's where neither refuses, or if a
-refusal of the engine's changed a word.)
+a line "stayed", a line "engine" with the engine's verdict or refusal, and a line "own cost" with
+each task's rounds from document 01's start, or with none for a refused table; the text has those
+from the default start. The engine is lent a slice of as many words as that for answers. (A program
+under test prints "changed" instead of "stayed" if a word past n, or any word on a refusal, is no
+longer the filler; and a further line "differs" if the engine's verdict or words are not the
+analysis's where neither refuses, or if a refusal of the engine's changed a word.)
 """ % (FILLER, FILLER)
 
 CLASSES_HELP = """writes one table for each class that is measured, FOLDER/NAME.table, and prints

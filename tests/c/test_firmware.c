@@ -1,7 +1,7 @@
 /* test_firmware TABLES: calls the library through its C header and compares it, word by word,
  * with the plain C analysis and the plain C engine (bench/plain.c) on every entry of a file that
- * "tests/reference.py make" wrote; and the engine with the analysis. The places of refusals are
- * also compared with some that were counted by hand. */
+ * "tests/reference.py make" wrote, the analysis from both starts; and the engine with the analysis.
+ * The places of refusals and some rounds are also compared with what was worked out by hand. */
 #include <stdio.h>
 #include <stdlib.h>
 #include <string.h>
@@ -15,6 +15,7 @@ enum {
     ENTRY_HEADER = 4,    /* table length (2), answers length (1), rounds length (1) */
     WORKED_TABLES = 15,  /* the file begins with document 01's worked tables */
     FIFTH_TABLE = 4,
+    LATE_TABLE = 10,
     SECTIONS_TABLE = 12,
     MANY_ROUNDS = 1000
 };
@@ -23,6 +24,16 @@ static const uint32_t filler = 0xA5A5A5A5u;
 
 typedef uint64_t analysis(const uint8_t *, size_t, uint32_t *, size_t, uint32_t *, size_t);
 typedef uint64_t engine(const uint8_t *, size_t, uint32_t *, size_t);
+
+/* A start of the rounds (document 02, L5) and the analyses from it; every cost is the default. */
+struct start {
+    const char *name;
+    analysis *ours, *plain;
+};
+
+static const struct start every_cost = {"every cost", ulmerascio_analyse, plain_analyse};
+static const struct start own_cost = {"own cost", ulmerascio_analyse_from_own_cost,
+                                      plain_analyse_from_own_cost};
 
 struct table {
     const uint8_t *bytes;
@@ -120,20 +131,20 @@ static void check_verdict(struct table table, uint64_t verdict)
     }
 }
 
-/* Calls both analyses; gives the plain one's outcome. */
-static struct outcome compare(const char *what, size_t number, struct table table,
-                              size_t answers_len, size_t rounds_len)
+/* Calls both analyses from a start; gives their outcome. */
+static struct outcome compare_from(const struct start *start, const char *what, size_t number,
+                                   struct table table, size_t answers_len, size_t rounds_len)
 {
     struct outcome ours, plain;
     size_t written;
 
-    call(ulmerascio_analyse, table, answers_len, rounds_len, &ours);
-    call(plain_analyse, table, answers_len, rounds_len, &plain);
+    call(start->ours, table, answers_len, rounds_len, &ours);
+    call(start->plain, table, answers_len, rounds_len, &plain);
     if (ours.verdict != plain.verdict || memcmp(ours.answers, plain.answers, sizeof ours.answers)
         || memcmp(ours.rounds, plain.rounds, sizeof ours.rounds)) {
-        printf("c: %s %lu, %lu bytes, slices of %lu and %lu words: verdict %llx, plain %llx\n",
-               what, (unsigned long)number, (unsigned long)table.length,
-               (unsigned long)answers_len, (unsigned long)rounds_len,
+        printf("c: %s %lu, %lu bytes, slices of %lu and %lu words, from %s: verdict %llx, plain "
+               "%llx\n", what, (unsigned long)number, (unsigned long)table.length,
+               (unsigned long)answers_len, (unsigned long)rounds_len, start->name,
                (unsigned long long)ours.verdict, (unsigned long long)plain.verdict);
         compare_slice("answers", ours.answers, plain.answers);
         compare_slice("rounds", ours.rounds, plain.rounds);
@@ -144,7 +155,38 @@ static struct outcome compare(const char *what, size_t number, struct table tabl
     check_stayed("answers", ours.answers, written);
     check_stayed("rounds", ours.rounds, written);
     calls++;
-    return plain;
+    return ours;
+}
+
+/* The start changes no verdict and no answer, and the default one takes no more rounds; said
+ * without the plain analysis. */
+static void compare_starts(const char *what, size_t number, const struct outcome *every,
+                           const struct outcome *own)
+{
+    int fits = every->verdict == own->verdict
+        && !memcmp(every->answers, own->answers, sizeof own->answers);
+
+    for (size_t i = 0; i < GUARD + LONGEST_SLICE + GUARD; i++)
+        fits = fits && every->rounds[i] <= own->rounds[i];
+    if (!fits) {
+        printf("c: %s %lu: the two starts do not fit: verdicts %llx and %llx\n", what,
+               (unsigned long)number, (unsigned long long)every->verdict,
+               (unsigned long long)own->verdict);
+        compare_slice("answers", every->answers, own->answers);
+        exit(1);
+    }
+}
+
+/* From both starts; gives the outcome from the default one. */
+static struct outcome compare(const char *what, size_t number, struct table table,
+                              size_t answers_len, size_t rounds_len)
+{
+    struct outcome every, own;
+
+    every = compare_from(&every_cost, what, number, table, answers_len, rounds_len);
+    own = compare_from(&own_cost, what, number, table, answers_len, rounds_len);
+    compare_starts(what, number, &every, &own);
+    return every;
 }
 
 struct played {
@@ -235,6 +277,41 @@ static void try_slice_lengths(size_t number, struct table table, const struct ou
             compare("worked table", number, table, answers_len, rounds_len);
     for (size_t answers_len = 0; answers_len <= LONGEST_SLICE; answers_len++)
         compare_play("worked table", number, table, answers_len);
+}
+
+/* The rounds of some tables from both starts, worked out by hand. */
+struct counted {
+    size_t number;
+    uint32_t every[4], own[4];
+};
+
+static const struct counted worked_rounds[] = {
+    {FIFTH_TABLE, {1, 1, 4}, {1, 2, 5}},
+    {LATE_TABLE, {1, 1}, {1, 2}},
+    {SECTIONS_TABLE, {1, 1, 2, 3}, {1, 2, 2, 4}},
+    {WORKED_TABLES - 1, {1, 999999}, {1, 1000000}},
+};
+
+static void expect_rounds(const struct start *start, struct table table, const uint32_t *wanted)
+{
+    size_t n = table.bytes[3];
+    struct outcome outcome;
+
+    call(start->ours, table, n, n, &outcome);
+    for (size_t i = 0; i < n; i++)
+        if (outcome.rounds[GUARD + i] != wanted[i]) {
+            printf("c: rounds from %s, worked out by hand:\n", start->name);
+            fail_word("rounds", GUARD + i, outcome.rounds[GUARD + i], wanted[i]);
+        }
+}
+
+static void try_rounds(size_t number, struct table table)
+{
+    for (size_t i = 0; i < sizeof worked_rounds / sizeof worked_rounds[0]; i++)
+        if (worked_rounds[i].number == number) {
+            expect_rounds(&every_cost, table, worked_rounds[i].every);
+            expect_rounds(&own_cost, table, worked_rounds[i].own);
+        }
 }
 
 /* Two changes to a table, and the refusal that they bring. */
@@ -370,14 +447,16 @@ static void try_far_too_long(size_t number, struct table table)
  * is one that the engine refuses. */
 static void try_delays(void)
 {
+    static const uint32_t rounds[] = {1, 1}, own_rounds[] = {1, 2};
     struct table table = {delays_table, sizeof delays_table};
     struct outcome outcome = compare("table with delays", 0, table, 2, 2);
     struct played played;
 
     compare_play("table with delays", 0, table, 2);
     call_engine(ulmerascio_play, table, 2, &played);
+    expect_rounds(&every_cost, table, rounds);
+    expect_rounds(&own_cost, table, own_rounds);
     if (outcome.verdict != 0 || outcome.answers[GUARD] != 20 || outcome.answers[GUARD + 1] != 25
-        || outcome.rounds[GUARD] != 1 || outcome.rounds[GUARD + 1] != 2
         || played.verdict != (uint64_t)9 << 32) {
         printf("c: the table with delays gets wrong answers\n");
         exit(1);
@@ -476,8 +555,10 @@ int main(int count, char **words)
         at += table.length;
         outcome = compare("entry", number, table, answers_len, rounds_len);
         compare_play("entry", number, table, answers_len);
-        if (number < WORKED_TABLES)
+        if (number < WORKED_TABLES) {
             try_slice_lengths(number, table, &outcome);
+            try_rounds(number, table);
+        }
         if (number == FIFTH_TABLE)
             try_far_too_long(number, table);
         if (number == SECTIONS_TABLE)
