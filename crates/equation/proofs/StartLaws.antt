@@ -1,8 +1,10 @@
--- Every start that is above no solution gives the answer, and a later one takes no more rounds: for any list of loads.
+-- Every start that is above no solution gives the answer, and a later one takes no more rounds than an earlier one: for any list of
+-- loads.
 -- Assumes nothing.
 use Prim.Native.Nat.{ℕ, zero, suc, _+_, _-_, _≤_, _<_}
 use native.Mathlib.Omega.{arith}
 use native.Mathlib.Decide.{decLe}
+use native.Mathlib.Nat.{zero-add, suc-add}
 use mathlib.Core.Path.{_≡_, refl, sym, _∙_, ap}
 use mathlib.Core.Bool.{true, false}
 use mathlib.Core.Logic.{_⊎_, inl, inr}
@@ -70,12 +72,14 @@ module _ (base : ℕ) (loads : List Load) (b : 1 ≤ base) where
         | no p ↦ omega arith
       ]
 
-  -- from a later start no x is smaller
-  terms-above : (start later k : ℕ) → start ≤ later → term base loads start k ≤ term base loads later k
+  -- a sequence that another is not behind at its start stays so
+  terms-above : (start other shift : ℕ) → start ≤ term base loads other shift → (k : ℕ) →
+      term base loads start k ≤ term base loads other (k + shift)
   unfolding term
-  terms-above start later zero h = h
-  terms-above start later (suc k) h =
-      demands.monotone base loads (term base loads start k) (term base loads later k) (terms-above start later k h)
+  terms-above start other shift h zero = rw (zero-add shift) h
+  terms-above start other shift h (suc k) =
+      rw (suc-add k shift)
+      (demands.monotone base loads (term base loads start k) (term base loads other (k + shift)) (terms-above start other shift h k))
 
   -- the rounds before the last, said without tests
   pub earlier-goes-on : (start late deadline k : ℕ) → 1 ≤ k → k < rounds base loads start late deadline →
@@ -119,41 +123,59 @@ module _ (base : ℕ) (loads : List Load) (b : 1 ≤ base) where
               ∙ sym (all-late start late deadline k above (omega arith))
         ]
 
-    -- From a later start the sequence has stopped by then: it is late where this one is, and at the solution where this one is.
-    fewer : (later : ℕ) → NotAbove base loads later → start ≤ later → rounds base loads later late deadline ≤ rounds base loads start late deadline
-    fewer later aboveLater h =
-        elim (decLe (rounds base loads later late deadline) (rounds base loads start late deadline)) [
+    -- Where another sequence has come as far `shift` rounds on, it has stopped by then: it is late where this one is, and at the
+    -- solution where this one is.
+    catches-up : (other shift : ℕ) → NotAbove base loads other →
+        ((k : ℕ) → term base loads start k ≤ term base loads other (k + shift)) →
+        rounds base loads other late deadline ≤ rounds base loads start late deadline + shift
+    catches-up other shift aboveOther far =
+        elim (decLe (rounds base loads other late deadline) (rounds base loads start late deadline + shift)) [
           | yes p ↦ p
           | no p ↦ absurd (longer p)
         ]
       where
-        longer : ¬ (rounds base loads later late deadline ≤ rounds base loads start late deadline) → ⊥
+        longer : ¬ (rounds base loads other late deadline ≤ rounds base loads start late deadline + shift) → ⊥
         longer p =
             let k = rounds base loads start late deadline in
             let one = roundsBound .positive base loads start late deadline b above in
-            let on = earlier-goes-on later late deadline k one (omega arith) in
+            let on = earlier-goes-on other late deadline (k + shift) (omega arith) (omega arith) in
             elim last-stops [
               | inl e ↦
                   let s = equal-smallest start k above one e in
                   let w = term base loads start k in
-                  let low = aboveLater w (s .positive) (s .solution) in
+                  let low = aboveOther w (s .positive) (s .solution) in
+                  let before : k - 1 + shift ≡ k + shift - 1 = omega arith in
                   on .0
                   (omega (
                     arith,
                     e,
-                    terms-above start later k h,
-                    terms-above start later (k - 1) h,
-                    sequenceReaches .passesNone base loads later w k low (s .solution),
-                    sequenceReaches .passesNone base loads later w (k - 1) low (s .solution),
+                    far k,
+                    far (k - 1),
+                    ap (term base loads other) before,
+                    sequenceReaches .passesNone base loads other w (k + shift) low (s .solution),
+                    sequenceReaches .passesNone base loads other w (k + shift - 1) low (s .solution),
                   ))
-              | inr l ↦ omega (arith, l, on .1, terms-above start later k h)
+              | inr l ↦ omega (arith, l, on .1, far k)
             ]
+
+later-fewer : (base : ℕ) (loads : List Load) (start later late deadline : ℕ) → 1 ≤ base → NotAbove base loads start → NotAbove base loads later →
+    start ≤ later → rounds base loads later late deadline ≤ rounds base loads start late deadline
+unfolding term
+later-fewer base loads start later late deadline b above aboveLater h =
+    omega (arith, catches-up base loads b start late deadline above later 0 aboveLater (terms-above base loads b start later 0 h))
+
+earlier-one-more : (base : ℕ) (loads : List Load) (start later late deadline : ℕ) → 1 ≤ base → NotAbove base loads start →
+    NotAbove base loads later → later ≤ demand base loads start → rounds base loads start late deadline ≤ rounds base loads later late deadline + 1
+unfolding term
+earlier-one-more base loads start later late deadline b above aboveLater h =
+    catches-up base loads b later late deadline aboveLater start 1 above (terms-above base loads b later start 1 h)
 
 pub any-start : AnyStart
 any-start =
     record {
       answers = λ base loads start late deadline b above. answer-from base loads b start late deadline above;
-      fewer = λ base loads start later late deadline b above aboveLater h. fewer base loads b start late deadline above later aboveLater h;
+      fewer = later-fewer;
+      oneMore = earlier-one-more;
     }
 
 -- a solution holds one cost of every load, and more than base
@@ -161,6 +183,11 @@ not-above : (start : Start) (base : ℕ) (loads : List Load) → PeriodsLow load
 unfolding demand
 not-above EveryCost base loads periods w one e = omega (arith, e, demands.costs-once loads w one periods)
 not-above OwnCost base loads periods w one e = omega (arith, demands.at-least-base base loads w)
+
+-- one round from the old start asks for the default's start at least
+first-round : (base : ℕ) (loads : List Load) → 1 ≤ base → PeriodsLow loads → startFrom EveryCost base loads ≤ demand base loads base
+unfolding demand
+first-round base loads b periods = omega (arith, demands.costs-once loads base b periods)
 
 pub both-starts : BothStarts
 both-starts =
@@ -171,6 +198,9 @@ both-starts =
       fewer = λ base loads late deadline b periods.
           any-start .fewer base loads (startFrom OwnCost base loads) (startFrom EveryCost base loads) late deadline b
           (not-above OwnCost base loads periods) (not-above EveryCost base loads periods) (omega arith);
+      oneMore = λ base loads late deadline b periods.
+          any-start .oneMore base loads (startFrom OwnCost base loads) (startFrom EveryCost base loads) late deadline b
+          (not-above OwnCost base loads periods) (not-above EveryCost base loads periods) (first-round base loads b periods);
     }
 
 pub bound-reached : BoundReached

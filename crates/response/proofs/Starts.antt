@@ -28,6 +28,13 @@ use Rattle.response.specs.Starts.{TwoStarts}
 use Rattle.response.proofs.TableLaws.{tasks-count, tasks-fit, periods-of}
 use Rattle.response.proofs.Demands.{answer-word, rounds-word, rounds-kept}
 
+-- never more, and at most one fewer
+abbrev Fewer : ℕ → ℕ → Type 0
+Fewer new old = (new ≤ old) × (old ≤ new + 1)
+
+stayed : (word : ℕ) → Fewer word word
+stayed word = (omega arith, omega arith)
+
 module _ (bytes : List ℕ) (right : TableRight bytes) (i : ℕ) (h : i < taskCount bytes) where
   base-positive : 1 ≤ baseOf (tableOf bytes) i
   base-positive = omega (arith, tasks-fit bytes (right .records) .costLow i (omega (arith, tasks-count bytes)))
@@ -50,43 +57,46 @@ module _ (bytes : List ℕ) (right : TableRight bytes) (i : ℕ) (h : i < taskCo
       (both-starts .answers start (baseOf (tableOf bytes) i) (loadsOf (tasksOf bytes) i)
       (taskOf (tasksOf bytes) i .latest) (taskOf (tasksOf bytes) i .deadline) base-positive (periods-of bytes (right .records) i h))
 
-  fewer : roundsOf EveryCost (tableOf bytes) i ≤ roundsOf OwnCost (tableOf bytes) i
+  fewer : Fewer (roundsOf EveryCost (tableOf bytes) i) (roundsOf OwnCost (tableOf bytes) i)
   unfolding roundsOf
   fewer =
-      both-starts .fewer (baseOf (tableOf bytes) i) (loadsOf (tasksOf bytes) i)
-      (taskOf (tasksOf bytes) i .latest) (taskOf (tasksOf bytes) i .deadline) base-positive (periods-of bytes (right .records) i h)
+      let base = baseOf (tableOf bytes) i in
+      let loads = loadsOf (tasksOf bytes) i in
+      let late = taskOf (tasksOf bytes) i .latest in
+      let due = taskOf (tasksOf bytes) i .deadline in
+      let periods = periods-of bytes (right .records) i h in
+      (both-starts .fewer base loads late due base-positive periods, both-starts .oneMore base loads late due base-positive periods)
 
 module _ (bytes answers rounds : List ℕ) where
   -- words of a task, and words that have stayed
   filled-fewer : TableRight bytes → (i : ℕ) →
-      wordOf (filled (roundsOf EveryCost (tableOf bytes)) (taskCount bytes) rounds) i
-      ≤ wordOf (filled (roundsOf OwnCost (tableOf bytes)) (taskCount bytes) rounds) i
+      Fewer (wordOf (filled (roundsOf EveryCost (tableOf bytes)) (taskCount bytes) rounds) i)
+      (wordOf (filled (roundsOf OwnCost (tableOf bytes)) (taskCount bytes) rounds) i)
   filled-fewer right i =
       elim (decLe (taskCount bytes) i) [
         | yes h ↦
-            omega (
-              arith,
+            rw (
               getD-filled-past (roundsOf EveryCost (tableOf bytes)) (taskCount bytes) i rounds 0 h,
               getD-filled-past (roundsOf OwnCost (tableOf bytes)) (taskCount bytes) i rounds 0 h,
             )
+            (stayed (wordOf rounds i))
         | no h ↦
             let inside : i < taskCount bytes = omega arith in
-            omega (
-              arith,
+            rw (
               getD-filled (roundsOf EveryCost (tableOf bytes)) (taskCount bytes) i rounds 0 inside,
               getD-filled (roundsOf OwnCost (tableOf bytes)) (taskCount bytes) i rounds 0 inside,
-              fewer bytes right i inside,
             )
+            (fewer bytes right i inside)
       ]
 
-  words-fewer : (i : ℕ) → wordOf (roundsAfter EveryCost bytes answers rounds) i ≤ wordOf (roundsAfter OwnCost bytes answers rounds) i
+  words-fewer : (i : ℕ) → Fewer (wordOf (roundsAfter EveryCost bytes answers rounds) i) (wordOf (roundsAfter OwnCost bytes answers rounds) i)
   unfolding roundsAfter
   words-fewer i = go (tableCheck bytes (length answers) (length rounds)) refl
     where
       go : (c : Check) → tableCheck bytes (length answers) (length rounds) ≡ c →
-          wordOf (roundsAfter EveryCost bytes answers rounds) i ≤ wordOf (roundsAfter OwnCost bytes answers rounds) i
+          Fewer (wordOf (roundsAfter EveryCost bytes answers rounds) i) (wordOf (roundsAfter OwnCost bytes answers rounds) i)
       go check.Clean e = rw e (filled-fewer (table-right bytes (length answers) (length rounds) e .0) i)
-      go (check.Refused r) e = rw e (omega arith)
+      go (check.Refused r) e = rw e (stayed (wordOf rounds i))
 
 pub twoStarts : TwoStarts
 twoStarts =

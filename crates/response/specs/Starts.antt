@@ -1,6 +1,6 @@
 -- Document 02's L5 for the bytes of any table: "Answers don't change; rounds do". The proof is in proofs/Starts.antt.
 -- Assumes nothing.
-use Prim.Native.Nat.{ℕ, _-_, _≤_, _<_}
+use Prim.Native.Nat.{ℕ, _+_, _-_, _≤_, _<_}
 use mathlib.Core.Path.{_≡_}
 use mathlib.Core.List.{List}
 use lib.ListN.{length}
@@ -31,7 +31,7 @@ pub record TwoStarts : Type 0 where
       Outcome start bytes answers rounds verdict answersLeft roundsLeft → TableRight bytes → RoomFor bytes (length answers) (length rounds) →
       (i : ℕ) → i < taskCount bytes →
       wordOf answersLeft i ≡ answerFor (taskOf (tasksOf bytes) i .latest) (taskOf (tasksOf bytes) i .deadline) (x start (tableOf bytes) i (wordOf roundsLeft i))
-  -- new rounds are never more than old rounds, for any bytes and in any word
+  -- new rounds are never more than old rounds, and at most one fewer, for any bytes and in any word
   pub neverMore : (bytes answers rounds : List ℕ) (verdict verdictOld : Verdict) (answersLeft roundsLeft answersOld roundsOld : List ℕ) →
       Outcome EveryCost bytes answers rounds verdict answersLeft roundsLeft → Outcome OwnCost bytes answers rounds verdictOld answersOld roundsOld →
-      (i : ℕ) → wordOf roundsLeft i ≤ wordOf roundsOld i
+      (i : ℕ) → (wordOf roundsLeft i ≤ wordOf roundsOld i) × (wordOf roundsOld i ≤ wordOf roundsLeft i + 1)
