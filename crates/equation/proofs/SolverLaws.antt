@@ -2,23 +2,20 @@
 -- Assumes nothing.
 use Prim.Native.Nat.{ℕ, zero, suc, _+_, _-_, _≤_, _<_}
 use native.Mathlib.Omega.{arith}
-use native.Mathlib.Decide.{ℕ-discrete, decLe}
-use native.Mathlib.Numerals.{add-one}
+use native.Mathlib.Decide.{ℕ-discrete}
 use mathlib.Core.Path.{_≡_, refl, sym, _∙_, ap, subst}
-use mathlib.Core.Bool.{Bool, true, false}
+use mathlib.Core.Bool.{true, false}
 use mathlib.Core.List.{List}
-use lib.Dec.{eqb, ltb}
+use lib.Dec.{eqb}
 use borrow.Author.Tests.{eq-eqb, lt-ltb, ne-eqb, le-ltb}
 use Rattle.model.specs.Tables.{Load}
 use Rattle.model.proofs.Search as search-laws
 use Rattle.model.proofs.Tests.{either-left, either-right, either-neither}
 use Rattle.equation.specs.Demand.{demand}
-use Rattle.equation.specs.Answer.{answer}
 use Rattle.equation.specs.Sequence.{term, stops, rounds}
-use Rattle.equation.specs.Laws.{IsSmallest, NotAbove}
+use Rattle.equation.specs.Laws.{IsSmallest}
 use Rattle.equation.specs.Solver.{Solvable, SolvedBy}
-use Rattle.equation.proofs.DemandLaws.{at-least-base}
-use Rattle.equation.proofs.Laws.{answerMeans, sequenceReaches, roundsBound}
+use Rattle.equation.proofs.Laws.{answerMeans, roundsBound}
 use Rattle.equation.proofs.SequenceLaws.{never-falls, start-rises}
 use Rattle.equation.proofs.StartLaws.{solution-smallest, all-late}
 

@@ -80,7 +80,7 @@ module _ (bytes answers rounds : List ℕ) where
   unfolding answersAfter
   answers-kept r e = rw e
 
-  pub rounds-kept : (start : Start) (r : Refusal) → tableCheck bytes (length answers) (length rounds) ≡ check.Refused r →
+  rounds-kept : (start : Start) (r : Refusal) → tableCheck bytes (length answers) (length rounds) ≡ check.Refused r →
       roundsAfter start bytes answers rounds ≡ rounds
   unfolding roundsAfter
   rounds-kept start r e = rw e

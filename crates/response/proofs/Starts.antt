@@ -5,7 +5,7 @@ use native.Mathlib.Omega.{arith}
 use native.Mathlib.Decide.{decLe}
 use mathlib.Core.Path.{_≡_, refl, sym, _∙_, ap}
 use mathlib.Core.List.{List}
-use lib.ListN.{length, getD}
+use lib.ListN.{length}
 use Rattle.model.specs.Lists.{filled, wordOf}
 use Rattle.model.specs.Tables.{taskOf, loadsOf}
 use Rattle.model.proofs.Lists.{getD-filled, getD-filled-past}
@@ -26,7 +26,7 @@ use Rattle.response.specs.Outcome.{roundsAfter}
 use Rattle.response.specs.Statements.{x}
 use Rattle.response.specs.Starts.{TwoStarts}
 use Rattle.response.proofs.TableLaws.{tasks-count, tasks-fit, periods-of}
-use Rattle.response.proofs.Demands.{answer-word, rounds-word, rounds-kept}
+use Rattle.response.proofs.Demands.{answer-word, rounds-word}
 
 -- never more, and at most one fewer
 abbrev Fewer : ℕ → ℕ → Type 0
