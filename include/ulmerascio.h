@@ -93,7 +93,7 @@ uint64_t ulmerascio_analyse(const uint8_t *table, size_t table_len,
  *
  * Verdict, answers and the words that stay are always those of ulmerascio_analyse. The rounds are
  * those that document 01 prints, 1, 2 and 5 for its fifth table where ulmerascio_analyse gives 1, 1
- * and 4; they are never fewer, and the bound above holds for this start.
+ * and 4; each is the same or one more, and the bound above holds with this start.
  *
  * Choose ulmerascio_analyse, which takes no more rounds to the same answers, unless the rounds are
  * to be held against document 01's or others that are counted from a task's own cost.

@@ -23,11 +23,11 @@ firstTerm OwnCost base urgent = base
 abbrev pub startFrom : Start → ℕ → List Load → ℕ
 startFrom start base loads = firstTerm start base (sumOf costOf loads)
 
--- "T [is] 1 to 1,000,000": no period is 0
+-- "T and C are 1 to 1,000,000": no period is 0
 abbrev pub PeriodsLow : List Load → Type 0
 PeriodsLow loads = (k : ℕ) → k < length loads → 1 ≤ getD loads k noLoad .period
 
--- The answer that the sequence itself gives, by the x of its last round: "x + J_i if .. x + J_i ≤ D_i; else 0".
+-- The answer that the sequence itself gives: "w + J_i if .. w + J_i ≤ D_i; else 0", with the x of its last round for w.
 abbrev pub answerFrom : ℕ → List Load → ℕ → ℕ → ℕ → ℕ
 answerFrom base loads start late deadline = answerFor late deadline (term base loads start (rounds base loads start late deadline))
 

@@ -56,7 +56,7 @@ unfoldable pub roundsAfter : Start → List ℕ → List ℕ → List ℕ → Li
 roundsAfter start bytes answers rounds =
     wordsAfter (tableCheck bytes (length answers) (length rounds)) (filled (roundsOf start (tableOf bytes)) (taskCount bytes) rounds) rounds
 
--- The whole outcome: the verdict, and every word of both slices. Of the start speak the rounds alone.
+-- The whole outcome: the verdict, and every word of both slices. Only the rounds depend on the start.
 pub record Outcome (start : Start) (bytes answers rounds : List ℕ) (verdict : Verdict) (answersLeft roundsLeft : List ℕ) : Type 0 where
   pub verdictIs : verdict ≡ verdictOf bytes (length answers) (length rounds)
   pub answersAre : answersLeft ≡ answersAfter bytes answers rounds

@@ -23,8 +23,8 @@ use Rattle.response.specs.declared.Verdict.the-variants.{Refused, Schedu
 use Rattle.response.specs.Analysis.{baseOf, startOf}
 use Rattle.response.specs.Outcome.{Outcome}
 
--- Demand 1: "Any bytes and any lent slices get an answer." `analyse` has no `requires` and is proved to return; what it returns is an
--- `Outcome`, and there is one for all bytes and slices.
+-- Demand 1: "Any bytes and any lent slices get an answer." `analyse_from` has no `requires` and is proved to return; what it returns is
+-- an `Outcome`, and there is one for either start and all bytes and slices.
 pub record Demand1 : Type 0 where
   pub answered : (start : Start) (bytes answers rounds : List ℕ) →
       (verdict : Verdict) × (answersLeft : List ℕ) × (roundsLeft : List ℕ) × Outcome start bytes answers rounds verdict answersLeft roundsLeft
@@ -102,7 +102,8 @@ NoSecondAnswer =
     Outcome start bytes answers rounds verdict answersLeft roundsLeft → Outcome start bytes answers rounds other answersOther roundsOther →
     (verdict ≡ other) × (answersLeft ≡ answersOther) × (roundsLeft ≡ roundsOther)
 
--- Demand 3: "With no jitter and no critical sections" (no delay and no row) the word that `analyse` leaves is right about every legal run.
+-- Demand 3: "With no jitter and no critical sections" (no delay and no row) the word that is left, from either start, is right about
+-- every legal run.
 abbrev pub Demand3 : Type 0
 Demand3 =
     (start : Start) (bytes answers rounds : List ℕ) (verdict : Verdict) (answersLeft roundsLeft : List ℕ) →
