@@ -27,10 +27,11 @@ use Rattle.tables.specs.Meaning.{TableRight, RoomFor}
 use Rattle.tables.proofs.LayoutLaws.{layout-sound}
 use Rattle.tables.proofs.CheckLaws.{table-deserved, table-gives, table-right, table-clean}
 use Rattle.runs.specs.Jobs.{NoDelay}
-use Rattle.response.specs.declared.Verdict.the-variants as verdict
-use Rattle.response.specs.Verdicts.{verdictPlace, isSchedulable}
+use Rattle.answering.specs.declared.Verdict.the-variants as verdict
+use Rattle.answering.specs.Results.{isSchedulable, lateIf, lateAt, resultOf}
+use Rattle.response.specs.Verdicts.{verdictPlace}
 use Rattle.response.specs.Analysis.{answerOf}
-use Rattle.response.specs.Outcome.{lateIf, lateAt, resultOf, verdictFor}
+use Rattle.response.specs.Outcome.{verdictFor}
 use Rattle.tables.proofs.PlaceLaws.{refusal-place}
 use Rattle.response.proofs.PlaceLaws.{result-place}
 use Rattle.response.proofs.TableLaws.{task-is, tasks-count, tasks-fit}

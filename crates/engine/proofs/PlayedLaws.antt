@@ -29,10 +29,9 @@ use Rattle.tables.proofs.OrderLaws.{head-decides, records-decide, rows-decide, 
 use Rattle.machine.specs.Machine.{played}
 use Rattle.machine.specs.Slices.{TasksHeld, DeadlinesHeld}
 use Rattle.machine.proofs.SameLaws.{played-same}
-use Rattle.response.specs.declared.Verdict.{Verdict}
-use Rattle.response.specs.declared.Verdict.the-variants as verdict
-use Rattle.response.specs.Verdicts.{isSchedulable}
-use Rattle.response.specs.Outcome.{lateAt, resultOf}
+use Rattle.answering.specs.declared.Verdict.{Verdict}
+use Rattle.answering.specs.declared.Verdict.the-variants as verdict
+use Rattle.answering.specs.Results.{isSchedulable, lateAt, resultOf}
 use Rattle.response.specs.Stages.{RecordsHeld}
 use Rattle.response.proofs.StageLaws.{no-rows}
 use Rattle.response.proofs.TableLaws.{task-is, tasks-count}

@@ -13,8 +13,9 @@ use Rattle.tables.specs.declared.Check.{Check}
 use Rattle.tables.specs.Layout.{taskCount, rowCount, tasksOf, latestIn}
 use Rattle.tables.specs.Refusals.{unless, firstIn}
 use Rattle.tables.specs.Checks.{tableCheck}
-use Rattle.response.specs.declared.Verdict.{Verdict}
-use Rattle.response.specs.Outcome.{resultOf, verdictFor, wordsAfter}
+use Rattle.answering.specs.declared.Verdict.{Verdict}
+use Rattle.answering.specs.Results.{resultOf}
+use Rattle.response.specs.Outcome.{verdictFor, wordsAfter}
 use Rattle.engine.specs.Run.{engineAnswer}
 
 -- no row, and no latest delay above 0 (so no earliest either, which is at most the latest)

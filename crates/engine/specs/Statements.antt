@@ -15,10 +15,11 @@ use Rattle.tables.specs.Deserved.{Deserved}
 use Rattle.runs.specs.Schedule.{Schedule, LegalSchedule}
 use Rattle.runs.specs.Synchronous.{synchronous}
 use Rattle.equation.specs.declared.Start.{Start}
-use Rattle.response.specs.declared.Verdict.{Verdict}
-use Rattle.response.specs.declared.Verdict.the-variants.{Refused}
+use Rattle.answering.specs.declared.Verdict.{Verdict}
+use Rattle.answering.specs.declared.Verdict.the-variants.{Refused}
 use Rattle.response.specs.Analysis.{answerOf}
-use Rattle.response.specs.Outcome.{Outcome, resultOf}
+use Rattle.answering.specs.Results.{resultOf}
+use Rattle.response.specs.Outcome.{Outcome}
 use Rattle.engine.specs.Run.{AsInRun}
 use Rattle.engine.specs.Outcome.{Played}
 

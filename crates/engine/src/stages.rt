@@ -7,7 +7,7 @@ ghost use Rattle.tables.specs.Layout.{layoutOf, rowCount, taskAt, costIn};
 ghost use Rattle.tables.specs.declared.Check.the-variants as check;
 ghost use Rattle.tables.specs.Checks.{headCheck, recordCheck};
 ghost use Rattle.reading.specs.Reading.{taskFrom, NumbersRead, numbersFault};
-ghost use Rattle.response.specs.Outcome.{resultOf};
+ghost use Rattle.answering.specs.Results.{resultOf};
 ghost use Rattle.response.specs.Stages.{Holds};
 ghost use Rattle.engine.specs.Outcome.{Played, playCheck};
 ghost use Rattle.engine.specs.Stages.{RecordsRead, NumbersHeld};

@@ -13,8 +13,8 @@ use Rattle.model.specs.Search.{firstFrom}
 use Rattle.tables.specs.declared.Refusal.{Refusal}
 use Rattle.tables.specs.Layout.{layoutOf, taskCount, recordStart, deadlineAt, deadlineIn}
 use Rattle.tables.specs.Refusals.{numberOf, placeOf}
-use Rattle.response.specs.declared.Verdict.{Verdict}
-use Rattle.response.specs.declared.Verdict.the-variants.{Refused, Schedulable, Late}
+use Rattle.answering.specs.declared.Verdict.{Verdict}
+use Rattle.answering.specs.declared.Verdict.the-variants.{Refused, Schedulable, Late}
 
 -- a word's bytes
 abbrev pub bytesOf : String → List ℕ

@@ -20,7 +20,7 @@ use Rattle.blocking.specs.Ceilings.{section, blockingOf}
 use Rattle.blocking.specs.Slices.{ownerAt, topAt, sectionAt, RowsHeld}
 use Rattle.blocking.proofs.CeilingLaws.{blocking-agrees}
 use Rattle.response.specs.Analysis.{baseOf, answerOf, roundsOf}
-use Rattle.response.specs.Slices.{decoded, answerIn, roundsIn, DecodedFits}
+use Rattle.answering.specs.Slices.{decoded, answerIn, roundsIn, DecodedFits}
 use Rattle.response.specs.Stages.{Holds, RecordsHeld, RowsRead}
 use Rattle.response.proofs.TableLaws as tables
 

@@ -32,11 +32,11 @@ use Rattle.blocking.specs.Ceilings.{blockingOf, section}
 use Rattle.runs.specs.Jobs.{NoDelay}
 use Rattle.runs.specs.Statement.{Answers, responseOf}
 use Rattle.runs.proofs.Demand3 as runs
-use Rattle.response.specs.declared.Verdict.{Verdict}
-use Rattle.response.specs.declared.Verdict.the-variants as verdict
-use Rattle.response.specs.Verdicts.{isSchedulable}
+use Rattle.answering.specs.declared.Verdict.{Verdict}
+use Rattle.answering.specs.declared.Verdict.the-variants as verdict
+use Rattle.answering.specs.Results.{isSchedulable, lateIf, lateAt, resultOf}
 use Rattle.response.specs.Analysis.{baseOf, startOf, answerOf, roundsOf}
-use Rattle.response.specs.Outcome.{Outcome, lateIf, lateAt, resultOf, verdictFor, verdictOf, answersAfter, roundsAfter}
+use Rattle.response.specs.Outcome.{Outcome, verdictFor, verdictOf, answersAfter, roundsAfter}
 use Rattle.response.specs.Statements as says
 use Rattle.response.specs.Statements.{AnswerRight, RoundsRight, ResultRight, Written}
 use Rattle.response.proofs.PlaceLaws.{schedulable-only}

@@ -1,4 +1,3 @@
-pub mod AnsweringLaws
 pub mod TableLaws
 pub mod DecodedLaws
 pub mod OutcomeLaws

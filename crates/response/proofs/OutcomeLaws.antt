@@ -18,12 +18,12 @@ use Rattle.tables.specs.Refusals.{at}
 use Rattle.tables.specs.Checks.{headCheck, recordsCheck, rowsCheck, tableCheck}
 use Rattle.tables.proofs.OrderLaws.{head-decides, records-decide, rows-decide, room-decides, all-pass}
 use Rattle.equation.specs.declared.Start.{Start}
-use Rattle.response.specs.declared.Verdict.{Verdict}
-use Rattle.response.specs.declared.Verdict.the-variants as verdict
-use Rattle.response.specs.Verdicts.{isSchedulable}
+use Rattle.answering.specs.declared.Verdict.{Verdict}
+use Rattle.answering.specs.declared.Verdict.the-variants as verdict
+use Rattle.answering.specs.Results.{isSchedulable, resultOf, lateIf}
 use Rattle.response.specs.Analysis.{answerOf, roundsOf}
-use Rattle.response.specs.Outcome.{Outcome, verdictOf, answersAfter, roundsAfter, resultOf, lateIf}
-use Rattle.response.specs.Slices.{Decoded, answerIn, roundsIn, Answered}
+use Rattle.response.specs.Outcome.{Outcome, verdictOf, answersAfter, roundsAfter}
+use Rattle.answering.specs.Slices.{Decoded, answerIn, roundsIn, Answered}
 
 module _ (start : Start) (bytes answers rounds : List ℕ) where
   -- a refusal leaves both slices as they were

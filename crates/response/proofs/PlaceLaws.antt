@@ -18,11 +18,12 @@ use Rattle.tables.specs.Checks.{tableCheck}
 use Rattle.tables.proofs.LayoutLaws.{layout-sound}
 use Rattle.tables.proofs.CheckLaws.{table-deserved, table-right}
 use Rattle.tables.proofs.PlaceLaws.{refusal-place}
-use Rattle.response.specs.declared.Verdict.{Verdict}
-use Rattle.response.specs.declared.Verdict.the-variants as verdict
-use Rattle.response.specs.Verdicts.{verdictPlace, isSchedulable}
+use Rattle.answering.specs.declared.Verdict.{Verdict}
+use Rattle.answering.specs.declared.Verdict.the-variants as verdict
+use Rattle.answering.specs.Results.{isSchedulable, lateIf, lateAt, resultOf}
+use Rattle.response.specs.Verdicts.{verdictPlace}
 use Rattle.response.specs.Analysis.{answerOf}
-use Rattle.response.specs.Outcome.{lateIf, lateAt, resultOf, verdictFor, verdictOf}
+use Rattle.response.specs.Outcome.{verdictFor, verdictOf}
 
 pub schedulable-only : (v : Verdict) → isSchedulable v ≡ true → v ≡ verdict.Schedulable
 schedulable-only (verdict.Refused r) p = absurd (clash false p refl)

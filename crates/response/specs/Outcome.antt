@@ -4,34 +4,17 @@
 use Prim.Native.Nat.{ℕ}
 use mathlib.Core.Path.{_≡_}
 use mathlib.Core.List.{List}
-use lib.Dec.{eqb}
 use lib.ListN.{length}
-use Rattle.model.specs.Choice.{pick}
 use Rattle.model.specs.Lists.{filled}
-use Rattle.model.specs.Search.{firstOf}
-use Rattle.model.specs.Tables.{Table}
-use Rattle.model.specs.declared.Place.{Place}
 use Rattle.tables.specs.declared.Check.{Check}
 use Rattle.tables.specs.declared.Check.the-variants as check
 use Rattle.tables.specs.Layout.{taskCount, tableOf}
-use Rattle.tables.specs.Refusals.{at}
 use Rattle.tables.specs.Checks.{tableCheck}
 use Rattle.equation.specs.declared.Start.{Start}
-use Rattle.response.specs.declared.Verdict.{Verdict}
-use Rattle.response.specs.declared.Verdict.the-variants.{Refused, Schedulable, Late}
-use Rattle.response.specs.Verdicts.{isSchedulable}
+use Rattle.answering.specs.declared.Verdict.{Verdict}
+use Rattle.answering.specs.declared.Verdict.the-variants.{Refused}
+use Rattle.answering.specs.Results.{resultOf}
 use Rattle.response.specs.Analysis.{answerOf, roundsOf}
-
--- late at a place, where the answer is 0
-abbrev pub lateIf : ℕ → Place → Verdict
-lateIf answer place = pick (eqb answer 0) (Late place) Schedulable
-
-abbrev pub lateAt : (ℕ → ℕ) → ℕ → Verdict
-lateAt answers i = lateIf (answers i) (at i)
-
--- "the result is "schedulable" or "late" with the first place whose answer is 0"
-abbrev pub resultOf : (ℕ → ℕ) → ℕ → Verdict
-resultOf answers n = firstOf isSchedulable Schedulable (lateAt answers) n
 
 -- "A refusal returns the number and the place"; otherwise the result
 abbrev pub verdictFor : Check → Verdict → Verdict

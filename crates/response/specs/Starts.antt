@@ -12,7 +12,7 @@ use Rattle.equation.specs.declared.Start.{Start}
 use Rattle.equation.specs.declared.Start.the-variants.{EveryCost, OwnCost}
 use Rattle.equation.specs.Answer.{answerFor}
 use Rattle.equation.specs.Laws.{IsSmallest}
-use Rattle.response.specs.declared.Verdict.{Verdict}
+use Rattle.answering.specs.declared.Verdict.{Verdict}
 use Rattle.response.specs.Analysis.{baseOf, startOf}
 use Rattle.response.specs.Outcome.{Outcome}
 use Rattle.response.specs.Statements.{x}

@@ -18,8 +18,8 @@ use Rattle.equation.specs.Sequence.{term}
 use Rattle.equation.specs.declared.Start.{Start}
 use Rattle.runs.specs.Jobs.{NoDelay}
 use Rattle.runs.specs.Statement.{Answers}
-use Rattle.response.specs.declared.Verdict.{Verdict}
-use Rattle.response.specs.declared.Verdict.the-variants.{Refused, Schedulable, Late}
+use Rattle.answering.specs.declared.Verdict.{Verdict}
+use Rattle.answering.specs.declared.Verdict.the-variants.{Refused, Schedulable, Late}
 use Rattle.response.specs.Analysis.{baseOf, startOf}
 use Rattle.response.specs.Outcome.{Outcome}
 

@@ -1,12 +1,11 @@
 -- What each verdict says in the documents' words: a number, and the place where it has one.
 -- Assumes nothing.
 use Prim.Native.Nat.{ℕ, _+_, _*_}
-use mathlib.Core.Bool.{Bool, true, false}
 use Rattle.model.specs.declared.Place.{Place}
 use Rattle.tables.specs.declared.Refusal.{Refusal}
 use Rattle.tables.specs.Refusals.{numberOf, placeOf}
-use Rattle.response.specs.declared.Verdict.{Verdict}
-use Rattle.response.specs.declared.Verdict.the-variants.{Refused, Schedulable, Late}
+use Rattle.answering.specs.declared.Verdict.{Verdict}
+use Rattle.answering.specs.declared.Verdict.the-variants.{Refused, Schedulable, Late}
 
 -- the refusal's number; 0 for "schedulable", and 255 for "late", which no refusal has
 abbrev pub codeOf : Verdict → ℕ
@@ -23,8 +22,3 @@ verdictPlace (Late place) = place .0
 -- both in one number, for C: the code in the upper 32 bits, the place in the lower 32
 abbrev pub packed : Verdict → ℕ
 packed verdict = codeOf verdict * 4294967296 + verdictPlace verdict
-
-abbrev pub isSchedulable : Verdict → Bool
-isSchedulable (Refused refusal) = false
-isSchedulable Schedulable = true
-isSchedulable (Late place) = false

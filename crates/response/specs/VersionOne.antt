@@ -13,7 +13,7 @@ use Rattle.equation.specs.Answer.{answer}
 use Rattle.equation.specs.Sequence.{rounds}
 use Rattle.equation.specs.declared.Start.{Start}
 use Rattle.equation.specs.Starts.{startFrom}
-use Rattle.response.specs.declared.Verdict.{Verdict}
+use Rattle.answering.specs.declared.Verdict.{Verdict}
 use Rattle.response.specs.Analysis.{baseOf}
 use Rattle.response.specs.Outcome.{Outcome}
 

@@ -9,17 +9,10 @@ use model::Place;
 use tables::Check;
 use tables::Refusal;
 
-mod answering;
 mod stages;
 
+pub use answering::Verdict;
 pub use equation::Start;
-
-// What is said of a table.
-pub enum Verdict {
-    Refused(Refusal),
-    Schedulable,
-    Late(Place),
-}
 
 // The refusal's number; 0 for schedulable, 255 for late.
 pub fn code(verdict: Verdict) -> u32

@@ -12,7 +12,7 @@ ghost use Rattle.response.specs.Outcome.{Outcome};
 ghost use Rattle.response.specs.Stages.{RecordsHeld, RowsRead};
 use crate::Start;
 use crate::Verdict;
-use crate::answering::answer_all;
+use answering::answer_all;
 use reading::records::ABOVE_EVERY_PRIORITY;
 use reading::records::Delays;
 use reading::records::TaskRecord;

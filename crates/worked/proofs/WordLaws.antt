@@ -13,7 +13,7 @@ use lib.Seq.{drop-cons}
 use borrow.Author.Tests.{eq-eqb, ne-eqb}
 use Rattle.model.proofs.Tests.{eqb?}
 use Rattle.printing.specs.Text.{bytesOf, withNumber}
-use Rattle.response.specs.declared.Verdict.{Verdict}
+use Rattle.answering.specs.declared.Verdict.{Verdict}
 use Rattle.response.specs.Verdicts.{codeOf, verdictPlace}
 use Rattle.worked.specs.Stay.{filler, allFiller, stays}
 use Rattle.worked.specs.Compared.{sameWords, sameOutcome}

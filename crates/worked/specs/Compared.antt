@@ -5,7 +5,7 @@ use mathlib.Core.Bool.{Bool, true, false}
 use mathlib.Core.List.{List, [], _∷_}
 use lib.Dec.{eqb}
 use Rattle.model.specs.Choice.{both}
-use Rattle.response.specs.declared.Verdict.{Verdict}
+use Rattle.answering.specs.declared.Verdict.{Verdict}
 use Rattle.response.specs.Verdicts.{codeOf, verdictPlace}
 
 -- are two lists the same, word by word?

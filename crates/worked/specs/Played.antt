@@ -5,8 +5,8 @@ use mathlib.Core.Bool.{Bool, true, false}
 use mathlib.Core.List.{List, [], _++_}
 use Rattle.model.specs.Choice.{pick}
 use Rattle.printing.specs.Text.{bytesOf, verdictLine}
-use Rattle.response.specs.declared.Verdict.{Verdict}
-use Rattle.response.specs.declared.Verdict.the-variants.{Refused, Schedulable, Late}
+use Rattle.answering.specs.declared.Verdict.{Verdict}
+use Rattle.answering.specs.declared.Verdict.the-variants.{Refused, Schedulable, Late}
 use Rattle.worked.specs.Stay.{stays}
 use Rattle.worked.specs.Compared.{sameOutcome}
 

@@ -4,8 +4,8 @@ use Prim.Native.Nat.{_-_, _≤_}
 use native.Mathlib.Omega.{arith}
 use mathlib.Core.Path.{_≡_}
 use Rattle.model.specs.Lists.{wordOf}
-use Rattle.response.specs.declared.Verdict.the-variants.{Schedulable}
-use Rattle.response.specs.Outcome.{resultOf}
+use Rattle.answering.specs.declared.Verdict.the-variants.{Schedulable}
+use Rattle.answering.specs.Results.{resultOf}
 use Rattle.engine.proofs.PlayedLaws.{result-none, result-on, result-late, result-all}
 use Rattle.engine.proofs.stages.result.Statement.{statement}
 use Rattle.engine.proofs.stages.result.Tie as tie

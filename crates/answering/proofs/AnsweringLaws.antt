@@ -22,11 +22,10 @@ use Rattle.equation.specs.Solver.{Solvable, SolvedBy}
 use Rattle.equation.specs.Starts.{firstTerm, startFrom}
 use Rattle.equation.proofs.StartLaws.{both-starts, periods-low, costs-none, costs-more}
 use Rattle.blocking.specs.Slices.{sectionAt}
-use Rattle.response.specs.declared.Verdict.{Verdict}
-use Rattle.response.specs.declared.Verdict.the-variants.{Schedulable}
-use Rattle.response.specs.Verdicts.{isSchedulable}
-use Rattle.response.specs.Outcome.{lateIf, lateAt, resultOf}
-use Rattle.response.specs.Slices.{Decoded, DecodedFits, loadsIn, answerIn, roundsIn}
+use Rattle.answering.specs.declared.Verdict.{Verdict}
+use Rattle.answering.specs.declared.Verdict.the-variants.{Schedulable}
+use Rattle.answering.specs.Results.{isSchedulable, lateIf, lateAt, resultOf}
+use Rattle.answering.specs.Slices.{Decoded, DecodedFits, loadsIn, answerIn, roundsIn}
 
 loads-less : (periods costs spreads : List ℕ) (n i : ℕ) → LoadsFit periods costs spreads n → i ≤ n → LoadsFit periods costs spreads i
 loads-less periods costs spreads n i f h =

@@ -1,12 +1,12 @@
--- `response::answering::answer_all` meets its contract: each turn answers one task, by the laws of `AnsweringLaws`.
+-- `answering::answer_all` meets its contract: each turn answers one task, by the laws of `AnsweringLaws`.
 -- Assumes nothing.
 use Prim.Native.Nat.{_-_}
 use native.Mathlib.Omega.{arith}
 use Rattle.model.proofs.Filling.{Filling, filling-none, filling-more, filling-at}
-use Rattle.response.specs.Slices.{decoded, answerIn, roundsIn}
-use Rattle.response.proofs.AnsweringLaws.{Answering, answering-none, answering-more, answering-all, urgent-fits, base-fits, loads-fit, first-fits, solvable, response-is, rounds-are}
-use Rattle.response.proofs.answering.answer_all.Statement.{statement}
-use Rattle.response.proofs.answering.answer_all.Tie as tie
+use Rattle.answering.specs.Slices.{decoded, answerIn, roundsIn}
+use Rattle.answering.proofs.AnsweringLaws.{Answering, answering-none, answering-more, answering-all, urgent-fits, base-fits, loads-fit, first-fits, solvable, response-is, rounds-are}
+use Rattle.answering.proofs.answer_all.Statement.{statement}
+use Rattle.answering.proofs.answer_all.Tie as tie
 
 abbrev Inv-loop : tie.InvT-loop
 Inv-loop start priorities periods costs deadlines spreads latest n owners tops longest m answers₀ rounds₀ verdict₀ urgent₀ i₀ answers rounds verdict urgent i =

@@ -12,8 +12,8 @@ use Rattle.equation.specs.Slices.{loads, LoadsFit}
 use Rattle.equation.specs.declared.Start.{Start}
 use Rattle.equation.specs.Starts.{startFrom}
 use Rattle.blocking.specs.Slices.{sectionAt}
-use Rattle.response.specs.declared.Verdict.{Verdict}
-use Rattle.response.specs.Outcome.{resultOf}
+use Rattle.answering.specs.declared.Verdict.{Verdict}
+use Rattle.answering.specs.Results.{resultOf}
 
 -- a decoded table: a word of each of six slices for each task, and of each of three for each of `rows` section rows
 pub record Decoded : Type 0 where

@@ -1,9 +1,9 @@
--- `response::answering::with_answer` meets its contract, case by case.
+-- `answering::with_answer` meets its contract, case by case.
 -- Assumes nothing.
 use borrow.Author.Tests.{eq-eqb, ne-eqb}
 use borrow.Author.Needs.{needs}
-use Rattle.response.proofs.answering.with_answer.Statement.{statement}
-use Rattle.response.proofs.answering.with_answer.Tie as tie
+use Rattle.answering.proofs.with_answer.Statement.{statement}
+use Rattle.answering.proofs.with_answer.Tie as tie
 
 enum-known-verdict : tie.Need-enum-known-verdict
 enum-known-verdict c = search needs

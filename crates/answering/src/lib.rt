@@ -3,17 +3,23 @@ ghost use mathlib.Core.Path.{_≡_};
 ghost use Prim.Native.Nat.{_≤_};
 ghost use lib.ListN.{length};
 ghost use Rattle.model.specs.Choice.{pick};
-ghost use Rattle.response.specs.Verdicts.{isSchedulable};
-ghost use Rattle.response.specs.Outcome.{lateIf};
-ghost use Rattle.response.specs.Slices.{decoded, DecodedFits, Answered};
-use crate::Start;
-use crate::Verdict;
+ghost use Rattle.answering.specs.Results.{isSchedulable, lateIf};
+ghost use Rattle.answering.specs.Slices.{decoded, DecodedFits, Answered};
 use blocking::blocking;
+use equation::Start;
 use equation::first_term;
 use equation::solve;
 use model::Place;
 use model::Priority;
 use model::Ticks;
+use tables::Refusal;
+
+// What is said of a table.
+pub enum Verdict {
+    Refused(Refusal),
+    Schedulable,
+    Late(Place),
+}
 
 // The verdict with one answer more: the first late place stays.
 fn with_answer(verdict: Verdict, answer: Ticks, at: Place) -> Verdict
