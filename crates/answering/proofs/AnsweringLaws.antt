@@ -20,7 +20,7 @@ use Rattle.equation.specs.Slices.{loadAt, LoadsFit}
 use Rattle.equation.specs.Laws.{NotAbove, costOf}
 use Rattle.equation.specs.Solver.{Solvable, SolvedBy}
 use Rattle.equation.specs.Starts.{firstTerm, startFrom}
-use Rattle.equation.proofs.StartLaws.{both-starts, periods-low, costs-none, costs-more}
+use Rattle.equation.proofs.StartLaws.{bothStarts, periods-low, costs-none, costs-more}
 use Rattle.blocking.specs.Slices.{sectionAt}
 use Rattle.answering.specs.declared.Verdict.{Verdict}
 use Rattle.answering.specs.declared.Verdict.the-variants.{Schedulable}
@@ -100,7 +100,7 @@ module _ (d : Decoded) (n : ℕ) where
               basePositive = omega (arith, f .costLow i h);
               notAbove =
                   subst (NotAbove base (loadsIn d i)) (sym first-is)
-                  (both-starts .notAbove start base (loadsIn d i)
+                  (bothStarts .notAbove start base (loadsIn d i)
                   (periods-low (loadAt (d .periods) (d .costs) (d .spreads)) i (λ k l. f .loadsFit .each k (omega arith) .periodLow)));
               startHigh = omega (arith, firstIs, first-high start);
               lateHigh = f .latestHigh i h;

@@ -169,8 +169,8 @@ unfolding term
 earlier-one-more base loads start later late deadline b above aboveLater h =
     catches-up base loads b later late deadline aboveLater start 1 above (terms-above base loads b later start 1 h)
 
-pub any-start : AnyStart
-any-start =
+pub anyStart : AnyStart
+anyStart =
     record {
       answers = λ base loads start late deadline b above. answer-from base loads b start late deadline above;
       fewer = later-fewer;
@@ -188,24 +188,24 @@ first-round : (base : ℕ) (loads : List Load) → 1 ≤ base → PeriodsLow loa
 unfolding demand
 first-round base loads b periods = omega (arith, demands.costs-once loads base b periods)
 
-pub both-starts : BothStarts
-both-starts =
+pub bothStarts : BothStarts
+bothStarts =
     record {
       notAbove = not-above;
       answers = λ start base loads late deadline b periods.
-          any-start .answers base loads (startFrom start base loads) late deadline b (not-above start base loads periods);
+          anyStart .answers base loads (startFrom start base loads) late deadline b (not-above start base loads periods);
       fewer = λ base loads late deadline b periods.
-          any-start .fewer base loads (startFrom OwnCost base loads) (startFrom EveryCost base loads) late deadline b
+          anyStart .fewer base loads (startFrom OwnCost base loads) (startFrom EveryCost base loads) late deadline b
           (not-above OwnCost base loads periods) (not-above EveryCost base loads periods) (omega arith);
       oneMore = λ base loads late deadline b periods.
-          any-start .oneMore base loads (startFrom OwnCost base loads) (startFrom EveryCost base loads) late deadline b
+          anyStart .oneMore base loads (startFrom OwnCost base loads) (startFrom EveryCost base loads) late deadline b
           (not-above OwnCost base loads periods) (not-above EveryCost base loads periods) (first-round base loads b periods);
     }
 
-pub bound-reached : BoundReached
+pub boundReached : BoundReached
 unfolding firstFrom term demand sumOf
-bound-reached EveryCost = refl
-bound-reached OwnCost = refl
+boundReached EveryCost = refl
+boundReached OwnCost = refl
 
 -- loads made from places have periods where each place has one
 pub periods-low : (load : ℕ → Load) (n : ℕ) → ((k : ℕ) → k < n → 1 ≤ load k .period) → PeriodsLow (tabulate load n)

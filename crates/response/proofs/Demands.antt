@@ -27,7 +27,7 @@ use Rattle.tables.proofs.CheckLaws.{table-deserved, table-gives, table-right, t
 use Rattle.equation.specs.declared.Start.{Start}
 use Rattle.equation.specs.Starts.{PeriodsLow}
 use Rattle.equation.proofs.Laws.{answerMeans, roundsBound}
-use Rattle.equation.proofs.StartLaws.{both-starts, last-stops, earlier-goes-on}
+use Rattle.equation.proofs.StartLaws.{bothStarts, last-stops, earlier-goes-on}
 use Rattle.blocking.specs.Ceilings.{blockingOf, section}
 use Rattle.runs.specs.Jobs.{NoDelay}
 use Rattle.runs.specs.Statement.{Answers, responseOf}
@@ -157,7 +157,7 @@ module _ (table : Table) (i : ℕ) (costLow : 1 ≤ taskOf (table .tasks) i .cos
       let late = taskOf (table .tasks) i .latest in
       let due = taskOf (table .tasks) i .deadline in
       let one : 1 ≤ base = omega arith in
-      let above = both-starts .notAbove start base loads periods in
+      let above = bothStarts .notAbove start base loads periods in
       record {
         positive = roundsBound .positive base loads (startOf start table i) late due one above;
         last = last-stops base loads one (startOf start table i) late due above;

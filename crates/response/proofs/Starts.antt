@@ -20,7 +20,7 @@ use Rattle.equation.specs.declared.Start.the-variants.{EveryCost, OwnCost}
 use Rattle.equation.specs.Answer.{answerFor}
 use Rattle.equation.specs.Laws.{IsSmallest}
 use Rattle.equation.proofs.Laws.{sequenceReaches}
-use Rattle.equation.proofs.StartLaws.{both-starts}
+use Rattle.equation.proofs.StartLaws.{bothStarts}
 use Rattle.response.specs.Analysis.{baseOf, startOf, answerOf, roundsOf}
 use Rattle.response.specs.Outcome.{roundsAfter}
 use Rattle.response.specs.Statements.{x}
@@ -44,7 +44,7 @@ module _ (bytes : List ℕ) (right : TableRight bytes) (i : ℕ) (h : i < taskCo
   reached start w s =
       let base = baseOf (tableOf bytes) i in
       let loads = loadsOf (tasksOf bytes) i in
-      let low = both-starts .notAbove start base loads (periods-of bytes (right .records) i h) w (s .positive) (s .solution) in
+      let low = bothStarts .notAbove start base loads (periods-of bytes (right .records) i h) w (s .positive) (s .solution) in
       (low, sequenceReaches .reaches base loads (startOf start (tableOf bytes) i) w base-positive low s)
 
   -- the answer is what the sequence has come to in its last round
@@ -54,7 +54,7 @@ module _ (bytes : List ℕ) (right : TableRight bytes) (i : ℕ) (h : i < taskCo
   unfolding answerOf roundsOf
   followed start =
       sym
-      (both-starts .answers start (baseOf (tableOf bytes) i) (loadsOf (tasksOf bytes) i)
+      (bothStarts .answers start (baseOf (tableOf bytes) i) (loadsOf (tasksOf bytes) i)
       (taskOf (tasksOf bytes) i .latest) (taskOf (tasksOf bytes) i .deadline) base-positive (periods-of bytes (right .records) i h))
 
   fewer : Fewer (roundsOf EveryCost (tableOf bytes) i) (roundsOf OwnCost (tableOf bytes) i)
@@ -65,7 +65,7 @@ module _ (bytes : List ℕ) (right : TableRight bytes) (i : ℕ) (h : i < taskCo
       let late = taskOf (tasksOf bytes) i .latest in
       let due = taskOf (tasksOf bytes) i .deadline in
       let periods = periods-of bytes (right .records) i h in
-      (both-starts .fewer base loads late due base-positive periods, both-starts .oneMore base loads late due base-positive periods)
+      (bothStarts .fewer base loads late due base-positive periods, bothStarts .oneMore base loads late due base-positive periods)
 
 module _ (bytes answers rounds : List ℕ) where
   -- words of a task, and words that have stayed
