@@ -177,7 +177,7 @@ anyStart =
       oneMore = earlier-one-more;
     }
 
--- a solution holds one cost of every load, and more than base
+-- a solution holds base and one cost of every load
 not-above : (start : Start) (base : ℕ) (loads : List Load) → PeriodsLow loads → NotAbove base loads (startFrom start base loads)
 unfolding demand
 not-above EveryCost base loads periods w one e = omega (arith, e, demands.costs-once loads w one periods)
@@ -213,7 +213,7 @@ periods-low load n each k h =
     let inside : k < n = omega (arith, length-tabulate load n) in
     rw (getD-tabulate load n k noLoad inside) (each k inside)
 
--- the sum of costs runs along from load to load, and fits a word
+-- the sum of costs runs along from load to load
 module _ (periods costs spreads : List ℕ) where
   pub costs-none : sumOf costOf (loads periods costs spreads 0) ≡ 0
   unfolding tabulate sumOf

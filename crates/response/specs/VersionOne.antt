@@ -1,5 +1,5 @@
 -- That version 1 tables keep their answers and rounds (document 02, L4): document 01's bytes and its equation, with J in both uses, as
--- document 01 writes them, beside what `analyse` leaves. The proof is in proofs/VersionOne.antt.
+-- document 01 writes them, beside what `analyse_from` leaves. The proof is in proofs/VersionOne.antt.
 -- Assumes nothing.
 use Prim.Native.Nat.{ℕ, suc, _+_, _*_, _≤_, _<_}
 use mathlib.Core.Path.{_≡_}
@@ -101,7 +101,7 @@ abbrev pub roundsOne : Start → Table → ℕ → ℕ
 roundsOne start table i =
     rounds (baseOf table i) (jitterLoads table i) (startFrom start (baseOf table i) (jitterLoads table i)) (jitterOf table i) (taskOf (table .tasks) i .deadline)
 
--- what `analyse` leaves for the task at place i is what document 01's equation gives
+-- what is left for the task at place i is what document 01's equation gives, the rounds from the start used
 pub record KeptAt (start : Start) (bytes answersLeft roundsLeft : List ℕ) (i : ℕ) : Type 0 where
   pub answerKept : wordOf answersLeft i ≡ answerOne (tableOne bytes) i
   pub roundsKept : wordOf roundsLeft i ≡ roundsOne start (tableOne bytes) i
