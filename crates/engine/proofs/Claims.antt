@@ -22,7 +22,7 @@ use Rattle.tables.specs.declared.Check.the-variants as check
 use Rattle.tables.specs.Fields.{taskCountField, latestField}
 use Rattle.tables.specs.Layout.{taskCount, rowCount, tasksOf, tableOf, latestIn}
 use Rattle.tables.specs.Refusals.{at, isClean}
-use Rattle.tables.specs.Checks.{roomCheck, tableCheck}
+use Rattle.tables.specs.Checks.{roomCheck, tableCheck, tableCheckSpanning}
 use Rattle.tables.specs.Meaning.{TableRight, RoomFor}
 use Rattle.tables.proofs.LayoutLaws.{layout-sound}
 use Rattle.tables.proofs.CheckLaws.{table-deserved, table-gives, table-right, table-clean}
@@ -72,24 +72,24 @@ module _ (bytes : List ℕ) (room : ℕ) where
     where
       go : (c : Check) → tableCheck bytes room room ≡ c → PlayDeserved bytes room r
       go (check.Refused s) e =
-          inl (table-deserved bytes room room r (e ∙ sym (table-decides bytes room s e) ∙ given))
+          inl (table-deserved 1 bytes room room r (e ∙ sym (table-decides bytes room s e) ∙ given))
       go check.Clean e =
           elim (bool? (isPlain bytes)) [
             | inl p ↦ absurd (clean-passes r (plain-clean bytes room e p) given)
             | inr p ↦
-                let right = table-right bytes room room e in
+                let right = table-right 1 bytes room room e in
                 let same : check.Refused NotPlayable ≡ check.Refused r = sym (not-plain bytes room e p) ∙ given in
                 inr (cc, record { right = right .0; room = right .1; notPlain = λ plain. clash (isPlain bytes) (plain-holds bytes plain) p })
           ]
 
   -- and one that is deserved is given
   play-gives : (r : Refusal) → PlayDeserved bytes room r → playCheck bytes room ≡ check.Refused r
-  play-gives r (inl d) = table-decides bytes room r (table-gives bytes room room r d)
+  play-gives r (inl d) = table-decides bytes room r (table-gives 1 bytes room room r d)
   play-gives r (inr d) =
       elim (bool? (isPlain bytes)) [
         | inl p ↦ absurd (d .1 .notPlain (plain-means bytes (d .1 .right) p))
         | inr p ↦
-            not-plain bytes room (table-clean bytes room room (d .1 .right) (d .1 .room)) p ∙ ap check.Refused (sym (d .0))
+            not-plain bytes room (table-clean 1 bytes room room (d .1 .right) (d .1 .room)) p ∙ ap check.Refused (sym (d .0))
       ]
 
   -- what is played breaks no rule, and is plain
@@ -100,13 +100,13 @@ module _ (bytes : List ℕ) (room : ℕ) where
       go (check.Refused s) e = absurd (clean-passes s accepted (table-decides bytes room s e))
       go check.Clean e =
           elim (bool? (isPlain bytes)) [
-            | inl p ↦ let right = table-right bytes room room e in (right .0, right .1, plain-means bytes (right .0) p)
+            | inl p ↦ let right = table-right 1 bytes room room e in (right .0, right .1, plain-means bytes (right .0) p)
             | inr p ↦ absurd (clean-passes NotPlayable accepted (not-plain bytes room e p))
           ]
 
   -- and such a table is played
   play-clean : TableRight bytes → RoomFor bytes room room → Plain bytes → playCheck bytes room ≡ check.Clean
-  play-clean right enough plain = plain-clean bytes room (table-clean bytes room room right enough) (plain-holds bytes plain)
+  play-clean right enough plain = plain-clean bytes room (table-clean 1 bytes room room right enough) (plain-holds bytes plain)
 
   -- a verdict that refuses is that of the check
   play-refused : (r : Refusal) → verdict.Refused r ≡ playVerdict bytes room → playCheck bytes room ≡ check.Refused r
@@ -190,7 +190,7 @@ playsEquation bytes answers left v o right room plain =
 
 -- where there is room for the rounds, the analysis checks as the engine does
 same-check : (bytes : List ℕ) (answers rounds : ℕ) → taskCount bytes ≤ rounds → tableCheck bytes answers answers ≡ tableCheck bytes answers rounds
-unfolding tableCheck roomCheck
+unfolding tableCheckSpanning roomCheck
 same-check bytes answers rounds h =
     elim (bool? (leb (taskCount bytes) answers)) [
       | inl p ↦ rw (p, le-leb (taskCount bytes) rounds h)
@@ -212,7 +212,7 @@ playsAsAnalysis start bytes answers rounds left answersLeft roundsLeft v other o
     go (check.Refused r) e =
         elim (play-deserved bytes (length answers) r e) [
           | inl d ↦
-              let refused = sym (same-check bytes (length answers) (length rounds) enough) ∙ table-gives bytes (length answers) (length answers) r d in (
+              let refused = sym (same-check bytes (length answers) (length rounds) enough) ∙ table-gives 1 bytes (length answers) (length answers) r d in (
                 o .verdictIs ∙ play-given bytes (length answers) r e ∙ sym (p .verdictIs ∙ verdict-given bytes answers rounds r refused),
                 o .answersAre ∙ words-kept bytes answers r e ∙ sym (p .answersAre ∙ answers-kept bytes answers rounds r refused),
               )
@@ -238,6 +238,6 @@ play-place bytes answers = go (playCheck bytes answers) refl
         )
     go (check.Refused r) e =
         elim (play-deserved bytes answers r e) [
-          | inl d ↦ refusal-place bytes answers answers r d
+          | inl d ↦ refusal-place 1 bytes answers answers r d
           | inr d ↦ rw (d .0) (omega arith)
         ]

@@ -1,5 +1,5 @@
 pub mod Run
 pub mod Outcome
-pub mod Stages
+pub mod Held
 pub mod Statements
 pub mod Example

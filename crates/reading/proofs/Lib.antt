@@ -1,2 +1,3 @@
+pub mod ColumnLaws
 pub mod RecordLaws
 pub mod RowLaws

@@ -20,15 +20,17 @@ use Rattle.tables.specs.declared.layout.Layout.{Layout}
 use Rattle.tables.specs.declared.Check.{Check}
 use Rattle.tables.specs.declared.Check.the-variants.{Clean, Refused}
 use Rattle.tables.specs.declared.Refusal.{Refusal}
-use Rattle.tables.specs.Layout.{layoutOf, taskCount, rowCount, recordStart, rowStart, rowFrom, rowAt, costIn, placeIn, semaphoreIn, Sound}
+use Rattle.tables.specs.Layout.{layoutOf, taskCount, rowCount, recordStart, rowStart, rowFrom, rowAt, costIn, placeIn, semaphoreIn}
 use Rattle.tables.specs.Refusals.{isClean, unless, orElse, firstIn, fieldsCheck}
 use Rattle.tables.specs.Fields.{rowOrder, rowRefusal}
 use Rattle.tables.specs.Rules.{between, rowInOrder, rowAfter, rowTest}
 use Rattle.tables.specs.Checks.{rowCheck, rowsCheck, rowsRead}
-use Rattle.reading.specs.Reading.{RowsFit, rowKey, rowFault}
+use Rattle.reading.specs.Columns.{Holds}
+use Rattle.reading.specs.Reading.{HeadRead, rowKey, rowFault}
 use Rattle.tables.proofs.LayoutLaws.{start-small}
 use Rattle.tables.proofs.FieldLaws.{stops-at, goes-on, goes-through}
 use Rattle.tables.proofs.MeaningLaws.{between-means}
+use Rattle.reading.proofs.ColumnLaws.{sound, few-tasks, few-rows, rows-end}
 
 -- the key of the row before row k: 0 before the first, which is below every key
 pub keyBefore : List ℕ → ℕ → ℕ
@@ -37,14 +39,12 @@ keyBefore bytes (suc k) = rowKey (rowAt bytes k)
 
 -- before row k is read
 pub record Scanning (bytes : List ℕ) (n m : ℕ) (costs : List ℕ) (k start before : ℕ) : Type 0 where
-  pub sound : Sound (layoutOf bytes)
-  pub tasksCounted : n ≡ taskCount bytes
-  pub rowsCounted : m ≡ rowCount bytes
-  pub fewTasks : n ≤ 32
+  pub head : HeadRead bytes (layoutOf bytes) n
+  pub fewTasks : n < 256
   pub fewRows : m ≤ 64
+  pub counted : m ≡ rowCount bytes
   pub fits : rowStart (layoutOf bytes) n m ≤ length bytes
-  pub costsLong : n ≤ length costs
-  pub costsRead : (i : ℕ) → i < n → getD costs i 0 ≡ costIn bytes i
+  pub held : Holds costs n (costIn bytes)
   pub within : k ≤ m
   pub here : start ≡ rowStart (layoutOf bytes) n k
   pub clean : firstOf isClean Clean (rowCheck bytes) k ≡ Clean
@@ -88,21 +88,20 @@ row-same n start {cost} {cost′} {inOrder} {inOrder′} row costs orders =
     (λ right. rw (orders (between-means 1 16 (row .semaphore) right .low)))))
 
 module _ (bytes : List ℕ) (n m : ℕ) (costs : List ℕ) where
-  pub scanning-none : (layout : Layout) {places semaphores longest : List ℕ} → RowsFit bytes layout n m costs places semaphores longest →
+  pub scanning-none : (layout : Layout) → HeadRead bytes layout n → m ≡ rowCount bytes → Holds costs n (costIn bytes) →
       Scanning bytes n m costs 0 (5 + layout .size * n) 0
   unfolding keyBefore
-  scanning-none layout f =
+  scanning-none layout h counted held =
+      let own : HeadRead bytes (layoutOf bytes) n = record { head = h .head; decided = refl; counted = h .counted } in
       record {
-        sound = subst Sound (f .decided) (f .sound);
-        tasksCounted = f .tasksCounted;
-        rowsCounted = f .rowsCounted;
-        fewTasks = f .fewTasks;
-        fewRows = f .fewRows;
-        fits = subst (λ (l : Layout). rowStart l n m ≤ length bytes) (f .decided) (f .within);
-        costsLong = f .costsLong;
-        costsRead = f .costsRead;
+        head = own;
+        fewTasks = few-tasks bytes layout n h;
+        fewRows = omega (arith, few-rows bytes layout n h, counted);
+        counted = counted;
+        fits = omega (arith, rows-end bytes (layoutOf bytes) n own, counted);
+        held = held;
         within = omega arith;
-        here = ap (λ (l : Layout). recordStart l n) (f .decided) ∙ omega arith;
+        here = ap (λ (l : Layout). recordStart l n) (h .decided) ∙ omega arith;
         clean = first-laws.first-none isClean Clean refl (rowCheck bytes);
         last = refl;
         byte = λ j e. absurd (omega arith);
@@ -111,11 +110,11 @@ module _ (bytes : List ℕ) (n m : ℕ) (costs : List ℕ) where
   module _ (k start before : ℕ) (s : Scanning bytes n m costs k start before) (h : k < m) (row : Row) (is : row ≡ rowFrom bytes start)
       (small : row .semaphore < 256) where
     here : start ≡ rowStart (layoutOf bytes) (taskCount bytes) k
-    here = s .here ∙ ap (λ (t : ℕ). rowStart (layoutOf bytes) t k) (s .tasksCounted)
+    here = s .here ∙ ap (λ (t : ℕ). rowStart (layoutOf bytes) t k) (s .head .counted)
 
     -- the row begins near the start of the bytes
     pub row-near : start < 65536
-    row-near = omega (arith, s .here, start-small (layoutOf bytes) (s .sound) (s .fewTasks), s .fewRows)
+    row-near = omega (arith, s .here, start-small (layoutOf bytes) (sound bytes (layoutOf bytes) n (s .head)) (s .fewTasks), s .fewRows)
 
     -- what was read is the row of that number
     pub as-row : row ≡ rowAt bytes k
@@ -143,31 +142,29 @@ module _ (bytes : List ℕ) (n m : ℕ) (costs : List ℕ) where
     fault-same =
         ap (λ (r : Row). rowFault r start n costs before) as-row
         ∙ ap (λ (o : ℕ). rowFault (rowAt bytes k) o n costs before) here
-        ∙ row-same n (rowStart (layoutOf bytes) (taskCount bytes) k) (rowAt bytes k) (λ inside. s .costsRead (placeIn bytes k) inside) order-test
+        ∙ row-same n (rowStart (layoutOf bytes) (taskCount bytes) k) (rowAt bytes k) (λ inside. s .held .read (placeIn bytes k) inside) order-test
         ∙ ap
         (λ (t : ℕ).
         fieldsCheck (rowTest t (costIn bytes (placeIn bytes k)) (rowInOrder bytes k (rowAt bytes k)) (rowAt bytes k))
         (rowRefusal (rowStart (layoutOf bytes) (taskCount bytes) k)) rowOrder)
-        (s .tasksCounted)
+        (s .head .counted)
 
     module _ (checked : Check) (found : checked ≡ rowFault row start n costs before) where
       pub row-wrong : (refusal : Refusal) → checked ≡ Refused refusal → (Refused refusal ≡ rowsCheck bytes) × (rowsRead bytes ≡ k)
       unfolding rowsCheck
       row-wrong refusal e =
-          stops-at (rowCheck bytes) k (s .clean) (rowCount bytes) (omega (arith, s .rowsCounted)) (Refused refusal) (sym fault-same ∙ sym found ∙ e) refl
+          stops-at (rowCheck bytes) k (s .clean) (rowCount bytes) (omega (arith, s .counted)) (Refused refusal) (sym fault-same ∙ sym found ∙ e) refl
 
       pub scanning-more : checked ≡ Clean → (next : ℕ) → next ≡ rowKey row → Scanning bytes n m costs (k + 1) (start + 6) next
       unfolding keyBefore
       scanning-more e next key =
           record {
-            sound = s .sound;
-            tasksCounted = s .tasksCounted;
-            rowsCounted = s .rowsCounted;
+            head = s .head;
             fewTasks = s .fewTasks;
             fewRows = s .fewRows;
+            counted = s .counted;
             fits = s .fits;
-            costsLong = s .costsLong;
-            costsRead = s .costsRead;
+            held = s .held;
             within = omega arith;
             here = omega (arith, s .here);
             clean = goes-on (rowCheck bytes) k (s .clean) (sym fault-same ∙ sym found ∙ e);
@@ -179,4 +176,4 @@ module _ (bytes : List ℕ) (n m : ℕ) (costs : List ℕ) where
 
   pub scanning-all : {k start before : ℕ} → Scanning bytes n m costs k start before → m ≤ k → (Clean ≡ rowsCheck bytes) × (rowsRead bytes ≡ k)
   unfolding rowsCheck
-  scanning-all {k} s h = goes-through (rowCheck bytes) k (s .clean) (rowCount bytes) (omega (arith, s .rowsCounted, s .within))
+  scanning-all {k} s h = goes-through (rowCheck bytes) k (s .clean) (rowCount bytes) (omega (arith, s .counted, s .within))

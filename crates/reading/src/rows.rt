@@ -2,10 +2,10 @@
 ghost use mathlib.Core.Path.{_≡_};
 ghost use Prim.Native.Nat.{_+_, _≤_, _<_};
 ghost use lib.ListN.{length};
-ghost use Rattle.model.specs.Lists.{filled};
-ghost use Rattle.tables.specs.Layout.{rowFrom, placeIn, semaphoreIn, longestIn};
+ghost use Rattle.tables.specs.Layout.{rowFrom, rowCount, costIn};
 ghost use Rattle.tables.specs.Checks.{rowsCheck, rowsRead};
-ghost use Rattle.reading.specs.Reading.{rowOf, rowKey, rowFault, RowsFit};
+ghost use Rattle.reading.specs.Columns.{rowColumns, RowRoom, withRows, Holds};
+ghost use Rattle.reading.specs.Reading.{HeadRead, rowOf, rowKey, rowFault};
 use model::Place;
 use model::Ticks;
 use tables::Check;
@@ -87,11 +87,10 @@ pub fn read_all(
     semaphores: &mut [u8],
     longest: &mut [u32],
 ) -> Check
-    requires { ⌜ RowsFit (now table) layout n m (now costs) (now places) (now semaphores) (now longest) ⌝ }
+    requires { ⌜ HeadRead (now table) layout n × (m ≡ rowCount (now table)) ⌝ }
+    requires { ⌜ Holds (now costs) n (costIn (now table)) × RowRoom m (rowColumns (now places) (now semaphores) (now longest)) ⌝ }
     ensures { λ r. ⌜ r ≡ rowsCheck (now (table .entry)) ⌝ }
-    ensures { λ r. ⌜ now (places .exit) ≡ filled (placeIn (now (table .entry))) (rowsRead (now (table .entry))) (now (places .entry)) ⌝ }
-    ensures { λ r. ⌜ now (semaphores .exit) ≡ filled (semaphoreIn (now (table .entry))) (rowsRead (now (table .entry))) (now (semaphores .entry)) ⌝ }
-    ensures { λ r. ⌜ now (longest .exit) ≡ filled (longestIn (now (table .entry))) (rowsRead (now (table .entry))) (now (longest .entry)) ⌝ }
+    ensures { λ r. ⌜ rowColumns (now (places .exit)) (now (semaphores .exit)) (now (longest .exit)) ≡ withRows (now (table .entry)) (rowsRead (now (table .entry))) (rowColumns (now (places .entry)) (now (semaphores .entry)) (now (longest .entry))) ⌝ }
 {
     // below every key: no row stands before the first
     let mut before: u32 = 0;

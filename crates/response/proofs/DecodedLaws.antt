@@ -3,104 +3,122 @@
 use Prim.Native.Nat.{ℕ, _+_, _≤_, _<_}
 use native.Mathlib.Omega.{arith}
 use mathlib.Core.Path.{_≡_, sym, _∙_, ap}
+use mathlib.Core.Bool.{true}
 use mathlib.Core.List.{List}
 use lib.ListN.{length, getD}
+use lib.Dec.{leb}
+use borrow.Author.Tests.{leb-true}
+use Rattle.model.specs.Choice.{both}
 use Rattle.model.specs.Lists.{tabulate, filled, largestTo, largestOf}
-use Rattle.model.proofs.Lists.{length-filled}
-use Rattle.model.proofs.Filling.{filled-word}
+use Rattle.model.proofs.Tests.{both-true}
 use Rattle.model.specs.Tables.{Task, Load, taskOf, loadOf, loadsOf}
 use Rattle.tables.specs.Fields.{taskCountField, rowCountField, periodField, costField, deadlineField, latestField, placeField, semaphoreField, longestField}
 use Rattle.tables.specs.Layout.{taskCount, rowCount, taskAt, rowAt, tasksOf, tableOf, placeIn}
-use Rattle.tables.specs.Meaning.{HeadRight, RecordsRight, RowsRight}
+use Rattle.tables.specs.Meaning.{TableRight}
 use Rattle.tables.proofs.LayoutLaws.{layout-sound}
-use Rattle.tables.proofs.CheckLaws.{head-right, records-right, rows-right}
+use Rattle.reading.proofs.ColumnLaws.{held-right, holds-filled}
 use Rattle.equation.specs.declared.Start.{Start}
 use Rattle.equation.specs.Slices.{loads, loadAt}
 use Rattle.blocking.specs.Ceilings.{section, blockingOf}
 use Rattle.blocking.specs.Slices.{ownerAt, topAt, sectionAt, RowsHeld}
 use Rattle.blocking.proofs.CeilingLaws.{blocking-agrees}
 use Rattle.response.specs.Analysis.{baseOf, answerOf, roundsOf}
-use Rattle.answering.specs.Slices.{decoded, answerIn, roundsIn, DecodedFits}
-use Rattle.response.specs.Stages.{Holds, RecordsHeld, RowsRead}
+use Rattle.answering.specs.Slices.{Decoded, decoded, answerIn, roundsIn, DecodedFits, Answered}
+use Rattle.answering.specs.declared.Verdict.{Verdict}
+use Rattle.response.specs.Outcome.{Outcome}
+use Rattle.response.proofs.OutcomeLaws.{answered}
+use Rattle.reading.specs.Columns.{RecordColumns, RowColumns, Holds, TableHeld}
 use Rattle.response.proofs.TableLaws as tables
-
--- a slice whose first words were filled holds them
-pub holds-filled : (f : ℕ → ℕ) (n : ℕ) (old new : List ℕ) → new ≡ filled f n old → n ≤ length old → Holds new n f
-holds-filled f n old new e h =
-    record { long = rw (e, length-filled f n old h) h; read = filled-word f n old new e }
 
 pub same-load : (a b : Load) → a .period ≡ b .period → a .cost ≡ b .cost → a .spread ≡ b .spread → a ≡ b
 same-load a b period cost spread = λ i. record { period = period i; cost = cost i; spread = spread i }
 
-module _ (bytes : List ℕ) (n m : ℕ) (priorities periods costs deadlines spreads latest places semaphores longest : List ℕ)
-    (records : RecordsHeld bytes n priorities periods costs deadlines spreads latest) (rows : RowsRead bytes m places semaphores longest) where
-  head : HeadRight bytes
-  head = head-right bytes (records .head)
+-- the columns and what was found for each row, as one decoded table
+abbrev pub decodedFrom : RecordColumns → RowColumns → (owners tops : List ℕ) (m : ℕ) → Decoded
+decodedFrom records rows owners tops m =
+    decoded (records .priorities) (records .periods) (records .costs) (records .deadlines) (records .spreads) (records .latest) owners tops
+    (rows .longest) m
 
-  tasksRight : RecordsRight bytes (taskCount bytes)
-  tasksRight = records-right bytes (records .records)
+-- what the test for room says
+pub room-is : (n answers rounds : ℕ) → both (leb n answers) (leb n rounds) ≡ true → (n ≤ answers) × (n ≤ rounds)
+room-is n answers rounds p =
+    let b = both-true (leb n answers) (leb n rounds) p in
+    (leb-true n answers (b .0), leb-true n rounds (b .1))
 
-  rowsRight : RowsRight bytes (rowCount bytes)
-  rowsRight = rows-right bytes (rows .rows)
+module _ (bytes : List ℕ) (records : RecordColumns) (rows : RowColumns) (held : TableHeld 1 bytes records rows) (n m : ℕ)
+    (tasksCounted : n ≡ taskCount bytes) (rowsCounted : m ≡ rowCount bytes) where
+  right : TableRight bytes
+  right = held-right held
 
   inside : {i : ℕ} → i < n → i < taskCount bytes
-  inside h = omega (arith, records .counted)
+  inside h = omega (arith, tasksCounted)
 
   row-inside : {k : ℕ} → k < m → k < rowCount bytes
-  row-inside h = omega (arith, rows .counted)
+  row-inside h = omega (arith, rowsCounted)
 
   place-inside : (k : ℕ) → k < m → placeIn bytes k < n
-  place-inside k h = omega (arith, rowsRight k (row-inside h) placeField, records .counted)
+  place-inside k h = omega (arith, right .rows k (row-inside h) placeField, tasksCounted)
 
-  pub few-rows : m ≤ 64
-  few-rows = omega (arith, head .counts rowCountField .high, rows .counted)
+  few-rows : m ≤ 64
+  few-rows = omega (arith, right .head .counts rowCountField .high, rowsCounted)
 
-  -- what the ceilings ask
-  pub rows-held : RowsHeld priorities places semaphores m
+  rows-held : RowsHeld (records .priorities) (rows .places) (rows .semaphores) m
   rows-held =
       record {
-        placesLong = rows .placesHeld .long;
-        semaphoresLong = rows .semaphoresHeld .long;
+        placesLong = omega (arith, held .places .long, rowsCounted);
+        semaphoresLong = omega (arith, held .semaphores .long, rowsCounted);
         placesLow = λ k h.
-            rw (rows .placesHeld .read k h) (omega (arith, place-inside k h, records .prioritiesHeld .long));
-        semaphoresLow = λ k h. rw (rows .semaphoresHeld .read k h) (rowsRight k (row-inside h) semaphoreField .high);
+            rw (held .places .read k (row-inside h)) (omega (arith, place-inside k h, held .priorities .long, tasksCounted));
+        semaphoresLow = λ k h. rw (held .semaphores .read k (row-inside h)) (right .rows k (row-inside h) semaphoreField .high);
       }
 
-  module _ (owners tops : List ℕ) (ownersHeld : Holds owners m (ownerAt priorities places))
-      (topsHeld : Holds tops m (topAt priorities places semaphores m)) where
-    longest-high : (k : ℕ) → k < m → getD longest k 0 ≤ 1000000
-    longest-high k h =
-        let row = rowsRight k (row-inside h) in
-        rw (rows .longestHeld .read k h)
-        (omega (arith, row longestField .high, tasksRight (placeIn bytes k) (row placeField) costField .high))
+  -- what the ceilings ask
+  pub may-span : RowsHeld (records .priorities) (rows .places) (rows .semaphores) m × ((m ≤ 64) × (m ≤ 64))
+  may-span = (rows-held, (few-rows, few-rows))
 
-    pub decoded-fits : DecodedFits (decoded priorities periods costs deadlines spreads latest owners tops longest m) n
+  -- and what they leave
+  module _ (owners tops oldOwners oldTops : List ℕ) (ownersLong : length oldOwners ≡ 64) (topsLong : length oldTops ≡ 64)
+      (left : (owners ≡ filled (ownerAt (records .priorities) (rows .places)) m oldOwners)
+      × (tops ≡ filled (topAt (records .priorities) (rows .places) (rows .semaphores) m) m oldTops)) where
+    ownersHeld : Holds owners m (ownerAt (records .priorities) (rows .places))
+    ownersHeld = holds-filled _ _ _ _ (left .0) (omega (arith, few-rows))
+
+    topsHeld : Holds tops m (topAt (records .priorities) (rows .places) (rows .semaphores) m)
+    topsHeld = holds-filled _ _ _ _ (left .1) (omega (arith, few-rows))
+
+    longest-high : (k : ℕ) → k < m → getD (rows .longest) k 0 ≤ 1000000
+    longest-high k h =
+        let row = right .rows k (row-inside h) in
+        rw (held .longest .read k (row-inside h))
+        (omega (arith, row longestField .high, right .records (placeIn bytes k) (row placeField) costField .high))
+
+    pub decoded-fits : DecodedFits (decodedFrom records rows owners tops m) n
     decoded-fits =
         record {
           loadsFit =
               record {
-                few = omega (arith, head .counts taskCountField .high, layout-sound bytes (head .version) .few, records .counted);
-                periodsLong = records .periodsHeld .long;
-                costsLong = records .costsHeld .long;
-                spreadsLong = records .spreadsHeld .long;
+                few = omega (arith, right .head .counts taskCountField .high, layout-sound bytes (right .head .version) .few, tasksCounted);
+                periodsLong = omega (arith, held .periods .long, tasksCounted);
+                costsLong = omega (arith, held .costs .long, tasksCounted);
+                spreadsLong = omega (arith, held .spreads .long, tasksCounted);
                 each = λ k h.
                     record {
-                      periodLow = rw (records .periodsHeld .read k h) (tasksRight k (inside h) periodField .low);
-                      costHigh = rw (records .costsHeld .read k h) (tasksRight k (inside h) costField .high);
-                      spreadHigh = rw (records .spreadsHeld .read k h) (omega (arith, tasksRight k (inside h) latestField .high));
+                      periodLow = rw (held .periods .read k (inside h)) (right .records k (inside h) periodField .low);
+                      costHigh = rw (held .costs .read k (inside h)) (right .records k (inside h) costField .high);
+                      spreadHigh = rw (held .spreads .read k (inside h)) (omega (arith, right .records k (inside h) latestField .high));
                     };
               };
-          prioritiesLong = records .prioritiesHeld .long;
-          deadlinesLong = records .deadlinesHeld .long;
-          latestLong = records .latestHeld .long;
+          prioritiesLong = omega (arith, held .priorities .long, tasksCounted);
+          deadlinesLong = omega (arith, held .deadlines .long, tasksCounted);
+          latestLong = omega (arith, held .latest .long, tasksCounted);
           ownersLong = ownersHeld .long;
           topsLong = topsHeld .long;
-          longestLong = rows .longestHeld .long;
-          costLow = λ i h. rw (records .costsHeld .read i h) (tasksRight i (inside h) costField .low);
+          longestLong = omega (arith, held .longest .long, rowsCounted);
+          costLow = λ i h. rw (held .costs .read i (inside h)) (right .records i (inside h) costField .low);
           deadlineHigh = λ i h.
-              let numbers = tasksRight i (inside h) in
-              rw (records .deadlinesHeld .read i h) (omega (arith, numbers deadlineField .high, numbers periodField .high));
-          latestHigh = λ i h. rw (records .latestHeld .read i h) (tasksRight i (inside h) latestField .high);
+              let numbers = right .records i (inside h) in
+              rw (held .deadlines .read i (inside h)) (omega (arith, numbers deadlineField .high, numbers periodField .high));
+          latestHigh = λ i h. rw (held .latest .read i (inside h)) (right .records i (inside h) latestField .high);
           longestHigh = longest-high;
         }
 
@@ -108,48 +126,57 @@ module _ (bytes : List ℕ) (n m : ℕ) (priorities periods costs deadlines spre
       own : taskOf (tasksOf bytes) i ≡ taskAt bytes i
       own = tables.task-is bytes i (inside h)
 
-      blocking-is : largestTo (sectionAt owners tops longest (getD priorities i 0)) m ≡ blockingOf (tableOf bytes) i
+      blocking-is : largestTo (sectionAt owners tops (rows .longest) (getD (records .priorities) i 0)) m ≡ blockingOf (tableOf bytes) i
       unfolding blockingOf
       blocking-is =
-          ap (λ (p : ℕ). largestTo (sectionAt owners tops longest p) m)
-          (records .prioritiesHeld .read i h ∙ sym (ap (λ (t : Task). t .priority) own))
-          ∙ blocking-agrees (tasksOf bytes) (rowAt bytes) m priorities places semaphores longest
-          (rows .placesHeld .read) (rows .semaphoresHeld .read) (rows .longestHeld .read)
+          ap (λ (p : ℕ). largestTo (sectionAt owners tops (rows .longest) p) m)
+          (held .priorities .read i (inside h) ∙ sym (ap (λ (t : Task). t .priority) own))
+          ∙ blocking-agrees (tasksOf bytes) (rowAt bytes) m (records .priorities) (rows .places) (rows .semaphores) (rows .longest)
+          (λ k l. held .places .read k (row-inside l)) (λ k l. held .semaphores .read k (row-inside l)) (λ k l. held .longest .read k (row-inside l))
           (λ k l.
-          records .prioritiesHeld .read (placeIn bytes k) (place-inside k l)
+          held .priorities .read (placeIn bytes k) (inside (place-inside k l))
           ∙ sym (ap (λ (t : Task). t .priority) (tables.task-is bytes (placeIn bytes k) (inside (place-inside k l)))))
           owners tops (ownersHeld .read) (topsHeld .read) (taskOf (tasksOf bytes) i .priority)
           ∙ ap
           (λ (c : ℕ). largestOf (section (tasksOf bytes) (tabulate (rowAt bytes) c) (taskOf (tasksOf bytes) i .priority)) (tabulate (rowAt bytes) c))
-          (rows .counted)
+          rowsCounted
 
-      base-is : getD costs i 0 + largestTo (sectionAt owners tops longest (getD priorities i 0)) m ≡ baseOf (tableOf bytes) i
+      base-is : getD (records .costs) i 0 + largestTo (sectionAt owners tops (rows .longest) (getD (records .priorities) i 0)) m ≡ baseOf (tableOf bytes) i
       base-is =
-          let cost : getD costs i 0 ≡ taskOf (tasksOf bytes) i .cost =
-          records .costsHeld .read i h ∙ sym (ap (λ (t : Task). t .cost) own) in
+          let cost : getD (records .costs) i 0 ≡ taskOf (tasksOf bytes) i .cost =
+          held .costs .read i (inside h) ∙ sym (ap (λ (t : Task). t .cost) own) in
           omega (arith, cost, blocking-is)
 
-      loads-agree : loads periods costs spreads i ≡ loadsOf (tasksOf bytes) i
+      loads-agree : loads (records .periods) (records .costs) (records .spreads) i ≡ loadsOf (tasksOf bytes) i
       loads-agree =
           sym
-          (tables.loads-are bytes tasksRight (loadAt periods costs spreads) i (inside h)
+          (tables.loads-are bytes (right .records) (loadAt (records .periods) (records .costs) (records .spreads)) i (inside h)
           (λ k l.
-          same-load (loadOf (taskAt bytes k)) (loadAt periods costs spreads k)
-          (sym (records .periodsHeld .read k (omega arith)))
-          (sym (records .costsHeld .read k (omega arith)))
-          (sym (records .spreadsHeld .read k (omega arith)))))
+          same-load (loadOf (taskAt bytes k)) (loadAt (records .periods) (records .costs) (records .spreads) k)
+          (sym (held .periods .read k (omega (arith, inside h))))
+          (sym (held .costs .read k (omega (arith, inside h))))
+          (sym (held .spreads .read k (omega (arith, inside h))))))
 
-      latest-is : getD latest i 0 ≡ taskOf (tasksOf bytes) i .latest
-      latest-is = records .latestHeld .read i h ∙ sym (ap (λ (t : Task). t .latest) own)
+      latest-is : getD (records .latest) i 0 ≡ taskOf (tasksOf bytes) i .latest
+      latest-is = held .latest .read i (inside h) ∙ sym (ap (λ (t : Task). t .latest) own)
 
-      deadline-is : getD deadlines i 0 ≡ taskOf (tasksOf bytes) i .deadline
-      deadline-is = records .deadlinesHeld .read i h ∙ sym (ap (λ (t : Task). t .deadline) own)
+      deadline-is : getD (records .deadlines) i 0 ≡ taskOf (tasksOf bytes) i .deadline
+      deadline-is = held .deadlines .read i (inside h) ∙ sym (ap (λ (t : Task). t .deadline) own)
 
-      pub answer-agrees : answerIn (decoded priorities periods costs deadlines spreads latest owners tops longest m) i ≡ answerOf (tableOf bytes) i
+      answer-agrees : answerIn (decodedFrom records rows owners tops m) i ≡ answerOf (tableOf bytes) i
       unfolding answerIn answerOf
       answer-agrees = rw (base-is, loads-agree, latest-is, deadline-is)
 
-      pub rounds-agree : (start : Start) →
-          roundsIn start (decoded priorities periods costs deadlines spreads latest owners tops longest m) i ≡ roundsOf start (tableOf bytes) i
+      rounds-agree : (start : Start) →
+          roundsIn start (decodedFrom records rows owners tops m) i ≡ roundsOf start (tableOf bytes) i
       unfolding roundsIn roundsOf
       rounds-agree start = rw (base-is, loads-agree, latest-is, deadline-is)
+
+    -- the answers of the columns are the outcome for the bytes
+    pub table-answered : (start : Start) (answers rounds : List ℕ) → (n ≤ length answers) × (n ≤ length rounds) → (v : Verdict)
+        (answersLeft roundsLeft : List ℕ) →
+        Answered start (decodedFrom records rows owners tops m) n v answers answersLeft rounds roundsLeft →
+        Outcome start bytes answers rounds v answersLeft roundsLeft
+    table-answered start answers rounds room v answersLeft roundsLeft a =
+        answered start bytes answers rounds (held .head) (held .body) n tasksCounted (room .0) (room .1) (decodedFrom records rows owners tops m) v
+        answersLeft roundsLeft a answer-agrees (λ i h. rounds-agree i h start)

@@ -111,18 +111,18 @@ demand1 =
       );
       refused = λ start bytes answers rounds answersLeft roundsLeft r o.
           let e = refusal-is bytes answers rounds r (o .verdictIs) in (
-            table-deserved bytes (length answers) (length rounds) r e,
+            table-deserved 1 bytes (length answers) (length rounds) r e,
             o .answersAre ∙ answers-kept bytes answers rounds r e,
             o .roundsAre ∙ rounds-kept bytes answers rounds start r e,
           );
       given = λ start bytes answers rounds answersLeft roundsLeft v r d o.
-          o .verdictIs ∙ verdict-given bytes answers rounds r (table-gives bytes (length answers) (length rounds) r d);
+          o .verdictIs ∙ verdict-given bytes answers rounds r (table-gives 1 bytes (length answers) (length rounds) r d);
       notRefused = λ start bytes answers rounds answersLeft roundsLeft v o never.
-          table-right bytes (length answers) (length rounds)
+          table-right 1 bytes (length answers) (length rounds)
           (check-clean bytes answers rounds (λ r e. never r (o .verdictIs ∙ e)));
       accepted = λ start bytes answers rounds answersLeft roundsLeft r right room o.
           clash (isClean (tableCheck bytes (length answers) (length rounds)))
-          (ap isClean (table-clean bytes (length answers) (length rounds) right room))
+          (ap isClean (table-clean 1 bytes (length answers) (length rounds) right room))
           (ap isClean (refusal-is bytes answers rounds r (o .verdictIs)));
     }
 
@@ -228,7 +228,7 @@ module _ (start : Start) (bytes answers rounds : List ℕ) (v : Verdict) (answer
     (o : Outcome start bytes answers rounds v answersLeft roundsLeft) (right : TableRight bytes)
     (room : RoomFor bytes (length answers) (length rounds)) where
   clean : tableCheck bytes (length answers) (length rounds) ≡ check.Clean
-  clean = table-clean bytes (length answers) (length rounds) right room
+  clean = table-clean 1 bytes (length answers) (length rounds) right room
 
   pub answers-filled : answersLeft ≡ filled (answerOf (tableOf bytes)) (taskCount bytes) answers
   unfolding answersAfter

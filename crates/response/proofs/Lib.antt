@@ -1,7 +1,6 @@
 pub mod TableLaws
-pub mod DecodedLaws
 pub mod OutcomeLaws
-pub mod StageLaws
+pub mod DecodedLaws
 pub mod PlaceLaws
 pub mod Demands
 pub mod Starts

@@ -1,7 +1,7 @@
--- Which outcome each stage leads to.
+-- Which outcome each check leads to.
 -- Assumes nothing.
 use Prim.Native.Nat.{ℕ, _≤_, _<_}
-use mathlib.Core.Path.{_≡_, _∙_, ap}
+use mathlib.Core.Path.{_≡_, sym, _∙_, ap}
 use mathlib.Core.Bool.{false}
 use mathlib.Core.List.{List}
 use lib.Dec.{leb}
@@ -12,11 +12,12 @@ use Rattle.model.proofs.Filling.{filled-same}
 use Rattle.model.proofs.First.{first-same}
 use Rattle.tables.specs.declared.Refusal.{Refusal}
 use Rattle.tables.specs.declared.Refusal.the-variants.{NoRoom}
+use Rattle.tables.specs.declared.Check.{Check}
 use Rattle.tables.specs.declared.Check.the-variants as check
 use Rattle.tables.specs.Layout.{taskCount, tableOf}
 use Rattle.tables.specs.Refusals.{at}
-use Rattle.tables.specs.Checks.{headCheck, recordsCheck, rowsCheck, tableCheck}
-use Rattle.tables.proofs.OrderLaws.{head-decides, records-decide, rows-decide, room-decides, all-pass}
+use Rattle.tables.specs.Checks.{headCheck, bodyCheck, tableCheck}
+use Rattle.tables.proofs.OrderLaws.{head-decides, body-decides, room-decides, all-pass}
 use Rattle.equation.specs.declared.Start.{Start}
 use Rattle.answering.specs.declared.Verdict.{Verdict}
 use Rattle.answering.specs.declared.Verdict.the-variants as verdict
@@ -33,42 +34,38 @@ module _ (start : Start) (bytes answers rounds : List ℕ) where
   refused r e = record { verdictIs = rw e; answersAre = rw e; roundsAre = rw e }
 
   pub head-refused : (r : Refusal) → check.Refused r ≡ headCheck bytes → Outcome start bytes answers rounds (verdict.Refused r) answers rounds
-  head-refused r e = refused r (head-decides bytes (length answers) (length rounds) r e)
+  head-refused r e = refused r (head-decides 1 bytes (length answers) (length rounds) r e)
 
-  pub records-refused : (r : Refusal) → headCheck bytes ≡ check.Clean → check.Refused r ≡ recordsCheck bytes →
+  pub body-refused : (r : Refusal) (head : Check) → head ≡ headCheck bytes → head ≡ check.Clean → check.Refused r ≡ bodyCheck 1 bytes →
       Outcome start bytes answers rounds (verdict.Refused r) answers rounds
-  records-refused r head e = refused r (records-decide bytes (length answers) (length rounds) head r e)
+  body-refused r head is clean e = refused r (body-decides 1 bytes (length answers) (length rounds) (sym is ∙ clean) r e)
 
-  module _ (head : headCheck bytes ≡ check.Clean) (records : recordsCheck bytes ≡ check.Clean) where
-    pub rows-refused : (r : Refusal) → check.Refused r ≡ rowsCheck bytes → Outcome start bytes answers rounds (verdict.Refused r) answers rounds
-    rows-refused r e = refused r (rows-decide bytes (length answers) (length rounds) head records r e)
+  module _ (head : headCheck bytes ≡ check.Clean) (body : bodyCheck 1 bytes ≡ check.Clean) (n : ℕ) (counted : n ≡ taskCount bytes) where
+    pub no-room : both (leb n (length answers)) (leb n (length rounds)) ≡ false →
+        Outcome start bytes answers rounds (verdict.Refused NoRoom) answers rounds
+    no-room e = refused NoRoom (room-decides 1 bytes (length answers) (length rounds) head body n counted e)
 
-    module _ (rows : rowsCheck bytes ≡ check.Clean) (n : ℕ) (counted : n ≡ taskCount bytes) where
-      pub no-room : both (leb n (length answers)) (leb n (length rounds)) ≡ false →
-          Outcome start bytes answers rounds (verdict.Refused NoRoom) answers rounds
-      no-room e = refused NoRoom (room-decides bytes (length answers) (length rounds) head records rows n counted e)
+    module _ (answersLong : n ≤ length answers) (roundsLong : n ≤ length rounds) where
+      accepted : tableCheck bytes (length answers) (length rounds) ≡ check.Clean
+      accepted = all-pass 1 bytes (length answers) (length rounds) head body n counted answersLong roundsLong
 
-      module _ (answersLong : n ≤ length answers) (roundsLong : n ≤ length rounds) where
-        accepted : tableCheck bytes (length answers) (length rounds) ≡ check.Clean
-        accepted = all-pass bytes (length answers) (length rounds) head records rows n counted answersLong roundsLong
+      filled-all : (f g : ℕ → ℕ) (old : List ℕ) → ((i : ℕ) → i < n → f i ≡ g i) → filled f n old ≡ filled g (taskCount bytes) old
+      filled-all f g old same = filled-same f g n old same ∙ ap (λ (k : ℕ). filled g k old) counted
 
-        filled-all : (f g : ℕ → ℕ) (old : List ℕ) → ((i : ℕ) → i < n → f i ≡ g i) → filled f n old ≡ filled g (taskCount bytes) old
-        filled-all f g old same = filled-same f g n old same ∙ ap (λ (k : ℕ). filled g k old) counted
-
-        -- answers that agree with the table's, task by task, are the outcome
-        pub answered : (d : Decoded) (v : Verdict) (answersLeft roundsLeft : List ℕ) →
-            Answered start d n v answers answersLeft rounds roundsLeft →
-            ((i : ℕ) → i < n → answerIn d i ≡ answerOf (tableOf bytes) i) → ((i : ℕ) → i < n → roundsIn start d i ≡ roundsOf start (tableOf bytes) i) →
-            Outcome start bytes answers rounds v answersLeft roundsLeft
-        unfolding verdictOf answersAfter roundsAfter
-        answered d v answersLeft roundsLeft a answer round =
-            record {
-              verdictIs =
-                  rw accepted
-                  (a .verdictIs
-                  ∙ first-same isSchedulable verdict.Schedulable (λ i. lateIf (answerIn d i) (at i)) (λ i. lateIf (answerOf (tableOf bytes) i) (at i)) n
-                  (λ i h. ap (λ (x : ℕ). lateIf x (at i)) (answer i h))
-                  ∙ ap (resultOf (answerOf (tableOf bytes))) counted);
-              answersAre = rw accepted (a .answersAre ∙ filled-all (answerIn d) (answerOf (tableOf bytes)) answers answer);
-              roundsAre = rw accepted (a .roundsAre ∙ filled-all (roundsIn start d) (roundsOf start (tableOf bytes)) rounds round);
-            }
+      -- answers that agree with the table's, task by task, are the outcome
+      pub answered : (d : Decoded) (v : Verdict) (answersLeft roundsLeft : List ℕ) →
+          Answered start d n v answers answersLeft rounds roundsLeft →
+          ((i : ℕ) → i < n → answerIn d i ≡ answerOf (tableOf bytes) i) → ((i : ℕ) → i < n → roundsIn start d i ≡ roundsOf start (tableOf bytes) i) →
+          Outcome start bytes answers rounds v answersLeft roundsLeft
+      unfolding verdictOf answersAfter roundsAfter
+      answered d v answersLeft roundsLeft a answer round =
+          record {
+            verdictIs =
+                rw accepted
+                (a .verdictIs
+                ∙ first-same isSchedulable verdict.Schedulable (λ i. lateIf (answerIn d i) (at i)) (λ i. lateIf (answerOf (tableOf bytes) i) (at i)) n
+                (λ i h. ap (λ (x : ℕ). lateIf x (at i)) (answer i h))
+                ∙ ap (resultOf (answerOf (tableOf bytes))) counted);
+            answersAre = rw accepted (a .answersAre ∙ filled-all (answerIn d) (answerOf (tableOf bytes)) answers answer);
+            roundsAre = rw accepted (a .roundsAre ∙ filled-all (roundsIn start d) (roundsOf start (tableOf bytes)) rounds round);
+          }

@@ -53,11 +53,11 @@ verdict-place bytes answers rounds = go (tableCheck bytes answers rounds) refl
   where
     go : (c : Check) → tableCheck bytes answers rounds ≡ c → verdictPlace (verdictFor c (resultOf (answerOf (tableOf bytes)) (taskCount bytes))) < 65536
     go check.Clean e =
-        let head = table-right bytes answers rounds e .0 .head in
+        let head = table-right 1 bytes answers rounds e .0 .head in
         omega (
           arith,
           result-place (answerOf (tableOf bytes)) (taskCount bytes),
           head .counts taskCountField .high,
           layout-sound bytes (head .version) .few,
         )
-    go (check.Refused r) e = refusal-place bytes answers rounds r (table-deserved bytes answers rounds r e)
+    go (check.Refused r) e = refusal-place 1 bytes answers rounds r (table-deserved 1 bytes answers rounds r e)

@@ -95,7 +95,7 @@ module _ (bytes answers rounds : List ℕ) where
     where
       go : (c : Check) → tableCheck bytes (length answers) (length rounds) ≡ c →
           Fewer (wordOf (roundsAfter EveryCost bytes answers rounds) i) (wordOf (roundsAfter OwnCost bytes answers rounds) i)
-      go check.Clean e = rw e (filled-fewer (table-right bytes (length answers) (length rounds) e .0) i)
+      go check.Clean e = rw e (filled-fewer (table-right 1 bytes (length answers) (length rounds) e .0) i)
       go (check.Refused r) e = rw e (stayed (wordOf rounds i))
 
 pub twoStarts : TwoStarts

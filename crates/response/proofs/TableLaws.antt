@@ -26,14 +26,14 @@ module _ (bytes : List ℕ) where
   pub tasks-count : length (tasksOf bytes) ≡ taskCount bytes
   tasks-count = length-tabulate (taskAt bytes) (taskCount bytes)
 
-  module _ (right : RecordsRight bytes (taskCount bytes)) where
+  module _ (right : RecordsRight 1 bytes (taskCount bytes)) where
     pub tasks-fit : TasksFit (tasksOf bytes)
     tasks-fit =
         record {
           periodLow = λ i h. rw (task-is i (inside i h)) (right i (inside i h) periodField .low);
           costLow = λ i h. rw (task-is i (inside i h)) (right i (inside i h) costField .low);
           deadlineLow = λ i h. rw (task-is i (inside i h)) (right i (inside i h) deadlineField .low);
-          deadlineHigh = λ i h. rw (task-is i (inside i h)) (right i (inside i h) deadlineField .high);
+          deadlineHigh = λ i h. rw (task-is i (inside i h)) (omega (arith, right i (inside i h) deadlineField .high));
           fall = λ i h.
               rw (task-is i (omega (arith, inside (suc i) h)), task-is (suc i) (inside (suc i) h))
               (right (suc i) (inside (suc i) h) priorityField .falls i refl);

@@ -11,9 +11,10 @@ use Rattle.model.specs.Tables.{Task, Table, Load, taskOf, loadOf, loadsOf, more
 use Rattle.model.proofs.Keep.{map-keep-same}
 use Rattle.model.proofs.Tasks.{same-task, same-row}
 use Rattle.tables.specs.declared.layout.Layout.{Layout}
-use Rattle.tables.specs.Layout.{byteAt, versionOf, versionOne, layoutFor, layoutOf, taskCount, rowCount, lengthFor, recordStart, recordFrom, taskAt, rowStart, rowFrom, rowAt, tableOf, earliestIn}
+use Rattle.tables.specs.Layout.{byteAt, versionOf, versionOne, layoutFor, layoutOf, taskCount, rowCount, lengthFor, recordStart, recordFrom, taskAt, rowStart, rowFrom, rowAt, tableOf, periodIn, deadlineIn, earliestIn}
 use Rattle.tables.specs.Fields.{taskCountField, rowCountField, periodField, costField, deadlineField, earliestField, latestField, priorityField, placeField, semaphoreField, longestField, orderField}
 use Rattle.tables.specs.Meaning.{Within, CountsRight, RecordRight, RowRight, TableRight}
+use Rattle.tables.proofs.MeaningLaws.{onePeriod}
 use Rattle.equation.specs.Answer.{answer}
 use Rattle.equation.specs.Sequence.{rounds}
 use Rattle.equation.specs.declared.Start.{Start}
@@ -69,7 +70,8 @@ module _ (bytes : List ℕ) (one : versionOf bytes ≡ 1) where
             record {
               period = right periodField;
               cost = right costField;
-              deadline = right deadlineField;
+              deadline =
+                  subst (λ (most : ℕ). Within 1 most (deadlineIn bytes i)) (onePeriod (periodIn bytes i) (right periodField)) (right deadlineField);
               jitter = record { low = omega arith; high = right latestField .high };
               positive = right priorityField .positive;
               falls = right priorityField .falls;
@@ -101,10 +103,11 @@ module _ (bytes : List ℕ) (one : versionOf bytes ≡ 1) where
       counts taskCountField = subst (λ (l : Layout). Within 1 (l .most) (taskCount bytes)) (sym layout-is) (r .tasks)
       counts rowCountField = r .rows
 
-      record-holds : (i : ℕ) → RecordRules (taskAt bytes) i → RecordRight bytes i
+      record-holds : (i : ℕ) → RecordRules (taskAt bytes) i → RecordRight 1 bytes i
       record-holds i rules periodField = rules .period
       record-holds i rules costField = rules .cost
-      record-holds i rules deadlineField = rules .deadline
+      record-holds i rules deadlineField =
+          subst (λ (most : ℕ). Within 1 most (deadlineIn bytes i)) (sym (onePeriod (periodIn bytes i) (rules .period))) (rules .deadline)
       record-holds i rules earliestField = record { low = omega arith; high = omega (arith, no-earliest i) }
       record-holds i rules latestField = record { low = omega (arith, no-earliest i); high = rules .jitter .high }
       record-holds i rules priorityField = record { positive = rules .positive; falls = rules .falls }

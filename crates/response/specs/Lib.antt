@@ -2,7 +2,6 @@ pub mod Analysis
 pub mod Verdicts
 pub mod Outcome
 pub mod Packing
-pub mod Stages
 pub mod Statements
 pub mod Starts
 pub mod VersionOne

@@ -1,18 +1,23 @@
 // The public entry: the bytes of one table and two lent slices in, a verdict out, answers and rounds in the slices.
 ghost use mathlib.Core.Path.{_≡_};
 ghost use Prim.Native.Nat.{_<_};
+ghost use lib.Dec.{leb};
+ghost use Rattle.model.specs.Choice.{both};
+ghost use Rattle.reading.specs.Columns.{recordColumns, rowColumns, TableHeld};
 ghost use Rattle.response.specs.Verdicts.{codeOf, verdictPlace, packed};
 ghost use Rattle.response.specs.Outcome.{Outcome};
 ghost use Rattle.response.specs.Packing.{PackedOutcome};
 ghost use Rattle.equation.specs.declared.Start.the-variants.{EveryCost};
+pub use answering::Verdict;
+use answering::answer_all;
+pub use equation::Start;
 use model::Place;
 use tables::Check;
+use tables::ONE_PERIOD;
+use tables::ROW_COUNT_AT;
 use tables::Refusal;
-
-mod stages;
-
-pub use answering::Verdict;
-pub use equation::Start;
+use tables::TASK_COUNT_AT;
+use tables::fields::count;
 
 // The refusal's number; 0 for schedulable, 255 for late.
 pub fn code(verdict: Verdict) -> u32
@@ -57,11 +62,106 @@ pub fn analyse(table: &[u8], answers: &mut [u32], rounds: &mut [u32]) -> Verdict
 pub fn analyse_from(start: Start, table: &[u8], answers: &mut [u32], rounds: &mut [u32]) -> Verdict
     ensures { λ r. ⌜ Outcome start (now (table .entry)) (now (answers .entry)) (now (rounds .entry)) r (now (answers .exit)) (now (rounds .exit)) ⌝ }
 {
-    let checked = tables::head::check(table);
-    match checked {
-        Check::Clean => stages::after_head(start, table, answers, rounds),
-        Check::Refused(refusal) => Verdict::Refused(refusal),
+    let head = tables::head::check(table);
+    if let Check::Refused(refusal) = head {
+        return Verdict::Refused(refusal);
     }
+    // room for the columns: no version has more than 32 tasks or 64 rows
+    let mut priorities = [0u8; 32];
+    let mut periods = [0u32; 32];
+    let mut costs = [0u32; 32];
+    let mut deadlines = [0u32; 32];
+    let mut spreads = [0u32; 32];
+    let mut latest = [0u32; 32];
+    let mut places = [0u8; 64];
+    let mut semaphores = [0u8; 64];
+    let mut longest = [0u32; 64];
+    let body = reading::read(
+        table,
+        ONE_PERIOD,
+        &mut priorities,
+        &mut periods,
+        &mut costs,
+        &mut deadlines,
+        &mut spreads,
+        &mut latest,
+        &mut places,
+        &mut semaphores,
+        &mut longest,
+    );
+    if let Check::Refused(refusal) = body {
+        return Verdict::Refused(refusal);
+    }
+    answer(
+        start,
+        table,
+        &priorities,
+        &periods,
+        &costs,
+        &deadlines,
+        &spreads,
+        &latest,
+        &places,
+        &semaphores,
+        &longest,
+        answers,
+        rounds,
+    )
+}
+
+// Is there a word for each of n tasks in both slices?
+fn room(n: usize, answers: usize, rounds: usize) -> bool
+    ensures { λ r. ⌜ r ≡ both (leb n answers) (leb n rounds) ⌝ }
+{
+    if answers < n {
+        return false;
+    }
+    n <= rounds
+}
+
+// Answers a table that the columns hold, where the slices have room. The ceilings are found once.
+fn answer(
+    start: Start,
+    table: &[u8],
+    priorities: &[u8],
+    periods: &[u32],
+    costs: &[u32],
+    deadlines: &[u32],
+    spreads: &[u32],
+    latest: &[u32],
+    places: &[u8],
+    semaphores: &[u8],
+    longest: &[u32],
+    answers: &mut [u32],
+    rounds: &mut [u32],
+) -> Verdict
+    requires { ⌜ TableHeld 1 (now table) (recordColumns (now priorities) (now periods) (now costs) (now deadlines) (now spreads) (now latest)) (rowColumns (now places) (now semaphores) (now longest)) ⌝ }
+    ensures { λ r. ⌜ Outcome start (now (table .entry)) (now (answers .entry)) (now (rounds .entry)) r (now (answers .exit)) (now (rounds .exit)) ⌝ }
+{
+    let n = count(table[TASK_COUNT_AT]);
+    let m = count(table[ROW_COUNT_AT]);
+    if !room(n, answers.len(), rounds.len()) {
+        return Verdict::Refused(Refusal::NoRoom);
+    }
+    let mut owners = [0u8; 64];
+    let mut tops = [0u8; 64];
+    blocking::spans(priorities, places, semaphores, m, &mut owners, &mut tops);
+    answer_all(
+        start,
+        priorities,
+        periods,
+        costs,
+        deadlines,
+        spreads,
+        latest,
+        n,
+        &owners,
+        &tops,
+        longest,
+        m,
+        answers,
+        rounds,
+    )
 }
 
 // The analysis from either start, its verdict in one number, for C.

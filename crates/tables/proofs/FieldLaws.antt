@@ -85,6 +85,12 @@ unfolding orElse
 stops-here Clean later wrong = absurd (clash true refl wrong)
 stops-here (Refused r) later wrong = refl
 
+-- and behind the last one nothing is
+pub last-decides : (check : Check) → orElse check Clean ≡ check
+unfolding orElse
+last-decides Clean = refl
+last-decides (Refused r) = refl
+
 -- a rule that its test refutes does not hold, and a rule that does not hold fails its test
 pub broken : {Rule : Type 0} {test : Bool} → (Rule → test ≡ true) → test ≡ false → ¬ Rule
 broken holds wrong rule = clash _ (holds rule) wrong

@@ -95,7 +95,7 @@ module _ (bytes : List ℕ) where
             )
 
     -- the length does not run away while it is summed up
-    pub summed-small : (n : ℕ) → n ≡ taskCount bytes → between 1 (layout .most) n ≡ true → layout .known ≡ true → layout .size * n ≤ 672
+    pub summed-small : (n : ℕ) → n ≡ taskCount bytes → between 1 (layout .most) n ≡ true → layout .known ≡ true → layout .size * n ≤ 5355
     summed-small n tasks n-fits known =
         let version = known-means bytes (knows known) in
         let sound = subst Sound (sym decided) (layout-sound bytes version) in

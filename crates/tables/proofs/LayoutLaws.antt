@@ -67,8 +67,9 @@ module _ (layout : Layout) where
       let more : layout .size * (i + 1) ≤ layout .size * n = mul-le-mul-left (layout .size) (omega arith) in
       omega arith
 
-  -- no record begins far on
-  pub start-small : Sound layout → {n : ℕ} → n ≤ 32 → recordStart layout n ≤ 677
+  -- no record begins far on: a byte counts them
+  pub start-small : Sound layout → {n : ℕ} → n < 256 → recordStart layout n ≤ 5360
   start-small s {n} few =
-      let most : layout .size * n ≤ 21 * 32 = mul-le-mul (s .small) few in
+      let least : n ≤ 255 = omega arith in
+      let most : layout .size * n ≤ 21 * 255 = mul-le-mul (s .small) least in
       omega arith

@@ -15,17 +15,20 @@ use Rattle.model.specs.Tables.{Row}
 use Rattle.model.proofs.Tests.{ltb?, both-true, both-pass, either-right, either-true}
 use Rattle.tables.specs.Layout.{layoutOf, statedLength, taskCount, rowCount, taskAt, rowAt, priorityIn, periodIn, costIn, deadlineIn, earliestIn, latestIn, placeIn, semaphoreIn, longestIn}
 use Rattle.tables.specs.Fields.{CountField, taskCountField, rowCountField, RecordField, periodField, costField, deadlineField, earliestField, latestField, priorityField, RowField, placeField, semaphoreField, longestField, orderField}
-use Rattle.tables.specs.Rules.{between, countTest, lengthsAgree, priorityFits, recordTest, rowAfter, rowInOrder, rowTest}
+use Rattle.tables.specs.Rules.{between, countTest, lengthsAgree, priorityFits, longestDeadline, recordTest, rowAfter, rowInOrder, rowTest}
 use Rattle.tables.specs.Checks.{rowTests}
-use Rattle.tables.specs.Meaning.{Within, CountRight, LengthsEqual, PriorityInOrder, RecordFieldRight, RowsRise, RowFieldRight, RoomFor}
+use Rattle.tables.specs.Meaning.{Within, CountRight, LengthsEqual, PriorityInOrder, RecordFieldRight, RowsRise, RowFieldRight, RoomFor, OnePeriod}
 
 pub between-means : (low high x : ℕ) → between low high x ≡ true → Within low high x
 between-means low high x p =
     let b = both-true (leb low x) (leb x high) p in
     record { low = leb-true low x (b .0); high = leb-true x high (b .1) }
 
-between-holds : (low high x : ℕ) → Within low high x → between low high x ≡ true
+pub between-holds : (low high x : ℕ) → Within low high x → between low high x ≡ true
 between-holds low high x w = both-pass (le-leb low x (w .low)) (le-leb x high (w .high))
+
+pub onePeriod : OnePeriod
+onePeriod period right = omega (arith, right .high)
 
 module _ (bytes : List ℕ) where
   pub count-means : (field : CountField) → countTest (layoutOf bytes .most) (taskCount bytes) (rowCount bytes) field ≡ true → CountRight bytes field
@@ -73,25 +76,25 @@ module _ (bytes : List ℕ) where
           either-right (eqb (suc k) 0) (ltb (priorityIn bytes i) (priorityIn bytes (suc k - 1)))
           (lt-ltb (priorityIn bytes i) (priorityIn bytes (suc k - 1)) (rw back (f k refl)))
 
-  pub record-means : (i : ℕ) (field : RecordField) → recordTest (taskAt bytes i) (priorityFits bytes i) field ≡ true →
-      RecordFieldRight bytes i field
+  pub record-means : (span i : ℕ) (field : RecordField) → recordTest span (taskAt bytes i) (priorityFits bytes i) field ≡ true →
+      RecordFieldRight span bytes i field
   unfolding recordTest
-  record-means i periodField p = between-means 1 1000000 (periodIn bytes i) p
-  record-means i costField p = between-means 1 1000000 (costIn bytes i) p
-  record-means i deadlineField p = between-means 1 (periodIn bytes i) (deadlineIn bytes i) p
-  record-means i earliestField p = between-means 0 1000000 (earliestIn bytes i) p
-  record-means i latestField p = between-means (earliestIn bytes i) 1000000 (latestIn bytes i) p
-  record-means i priorityField p = priority-means i p
+  record-means span i periodField p = between-means 1 1000000 (periodIn bytes i) p
+  record-means span i costField p = between-means 1 1000000 (costIn bytes i) p
+  record-means span i deadlineField p = between-means 1 (longestDeadline span (periodIn bytes i)) (deadlineIn bytes i) p
+  record-means span i earliestField p = between-means 0 1000000 (earliestIn bytes i) p
+  record-means span i latestField p = between-means (earliestIn bytes i) 1000000 (latestIn bytes i) p
+  record-means span i priorityField p = priority-means i p
 
-  pub record-holds : (i : ℕ) (field : RecordField) → RecordFieldRight bytes i field →
-      recordTest (taskAt bytes i) (priorityFits bytes i) field ≡ true
+  pub record-holds : (span i : ℕ) (field : RecordField) → RecordFieldRight span bytes i field →
+      recordTest span (taskAt bytes i) (priorityFits bytes i) field ≡ true
   unfolding recordTest
-  record-holds i periodField r = between-holds 1 1000000 (periodIn bytes i) r
-  record-holds i costField r = between-holds 1 1000000 (costIn bytes i) r
-  record-holds i deadlineField r = between-holds 1 (periodIn bytes i) (deadlineIn bytes i) r
-  record-holds i earliestField r = between-holds 0 1000000 (earliestIn bytes i) r
-  record-holds i latestField r = between-holds (earliestIn bytes i) 1000000 (latestIn bytes i) r
-  record-holds i priorityField r = priority-holds i r
+  record-holds span i periodField r = between-holds 1 1000000 (periodIn bytes i) r
+  record-holds span i costField r = between-holds 1 1000000 (costIn bytes i) r
+  record-holds span i deadlineField r = between-holds 1 (longestDeadline span (periodIn bytes i)) (deadlineIn bytes i) r
+  record-holds span i earliestField r = between-holds 0 1000000 (earliestIn bytes i) r
+  record-holds span i latestField r = between-holds (earliestIn bytes i) 1000000 (latestIn bytes i) r
+  record-holds span i priorityField r = priority-holds i r
 
 rise-means : (before row : Row) → rowAfter before row ≡ true → RowsRise before row
 unfolding rowAfter

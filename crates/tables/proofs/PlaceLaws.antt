@@ -11,7 +11,7 @@ use Rattle.tables.specs.Layout.{layoutOf, taskCount, recordStart, rowSta
 use Rattle.tables.specs.Refusals.{placeOf}
 use Rattle.tables.specs.Fields.{CountField, taskCountField, rowCountField, countRefusal, RecordField, periodField, costField, deadlineField, earliestField, latestField, priorityField, recordRefusal, RowField, placeField, semaphoreField, longestField, orderField, rowRefusal}
 use Rattle.tables.specs.Meaning.{HeadRight}
-use Rattle.tables.specs.Deserved.{RecordFault, Deserved}
+use Rattle.tables.specs.Deserved.{RecordFault, DeservedSpanning}
 use Rattle.tables.proofs.LayoutLaws.{layout-sound, record-inside, start-small}
 
 -- a field's first byte lies in the head, in its record, in its row
@@ -34,13 +34,13 @@ row-place start longestField = omega arith
 row-place start orderField = omega arith
 
 -- where the rows begin
-records-end : (bytes : List ℕ) → HeadRight bytes → recordStart (layoutOf bytes) (taskCount bytes) ≤ 677
+records-end : (bytes : List ℕ) → HeadRight bytes → recordStart (layoutOf bytes) (taskCount bytes) ≤ 5360
 records-end bytes head =
     let s = layout-sound bytes (head .version) in
     start-small (layoutOf bytes) s (omega (arith, head .counts taskCountField .high, s .few))
 
-fault-place : (bytes : List ℕ) (r : Refusal) → HeadRight bytes → RecordFault bytes r → placeOf r < 65536
-fault-place bytes r head f =
+fault-place : (span : ℕ) (bytes : List ℕ) (r : Refusal) → HeadRight bytes → RecordFault span bytes r → placeOf r < 65536
+fault-place span bytes r head f =
     let s = layout-sound bytes (head .version) in
     omega (
       arith,
@@ -51,14 +51,14 @@ fault-place bytes r head f =
     )
 
 -- "1–2: length of the whole table in bytes": no place reaches past what two bytes can state
-pub refusal-place : (bytes : List ℕ) (answers rounds : ℕ) (r : Refusal) → Deserved bytes answers rounds r → placeOf r < 65536
-refusal-place bytes answers rounds TooShort d = omega arith
-refusal-place bytes answers rounds UnknownVersion d = omega arith
-refusal-place bytes answers rounds (CountOutOfRange place) d = omega (arith, ap placeOf (d .2 .given), count-place (d .2 .field))
-refusal-place bytes answers rounds LengthsDiffer d = omega arith
-refusal-place bytes answers rounds (NumberOutOfRange place) d = fault-place bytes (NumberOutOfRange place) (d .0) (d .1)
-refusal-place bytes answers rounds (PriorityOutOfOrder place) d = fault-place bytes (PriorityOutOfOrder place) (d .0) (d .1)
-refusal-place bytes answers rounds (SectionRow place) d =
+pub refusal-place : (span : ℕ) (bytes : List ℕ) (answers rounds : ℕ) (r : Refusal) → DeservedSpanning span bytes answers rounds r → placeOf r < 65536
+refusal-place span bytes answers rounds TooShort d = omega arith
+refusal-place span bytes answers rounds UnknownVersion d = omega arith
+refusal-place span bytes answers rounds (CountOutOfRange place) d = omega (arith, ap placeOf (d .2 .given), count-place (d .2 .field))
+refusal-place span bytes answers rounds LengthsDiffer d = omega arith
+refusal-place span bytes answers rounds (NumberOutOfRange place) d = fault-place span bytes (NumberOutOfRange place) (d .0) (d .1)
+refusal-place span bytes answers rounds (PriorityOutOfOrder place) d = fault-place span bytes (PriorityOutOfOrder place) (d .0) (d .1)
+refusal-place span bytes answers rounds (SectionRow place) d =
     let f = d .2 in
     omega (
       arith,
@@ -68,5 +68,5 @@ refusal-place bytes answers rounds (SectionRow place) d =
       records-end bytes (d .0),
       d .0 .counts rowCountField .high,
     )
-refusal-place bytes answers rounds NoRoom d = omega arith
-refusal-place bytes answers rounds NotPlayable d = omega arith
+refusal-place span bytes answers rounds NoRoom d = omega arith
+refusal-place span bytes answers rounds NotPlayable d = omega arith

@@ -19,9 +19,10 @@ use Rattle.tables.specs.Rules.{countTest, lengthsAgree, priorityFits, re
 unfoldable pub countsCheck : List ℕ → Check
 countsCheck bytes = fieldsCheck (countTest (layoutOf bytes .most) (taskCount bytes) (rowCount bytes)) countRefusal countOrder
 
--- "Task records are taken in order, each tested for 5 and then 6"
-unfoldable pub recordCheck : List ℕ → ℕ → Check
-recordCheck bytes i = fieldsCheck (recordTest (taskAt bytes i) (priorityFits bytes i)) (refusalInRecord (layoutOf bytes) i) recordOrder
+-- "Task records are taken in order, each tested for 5 and then 6". How many periods a deadline may span is the rule's argument, `span`.
+unfoldable pub recordCheck : ℕ → List ℕ → ℕ → Check
+recordCheck span bytes i =
+    fieldsCheck (recordTest span (taskAt bytes i) (priorityFits bytes i)) (refusalInRecord (layoutOf bytes) i) recordOrder
 
 -- the tests of row k, with the cost of the task that it names
 abbrev pub rowTests : List ℕ → ℕ → RowField → Bool
@@ -45,25 +46,33 @@ unfoldable pub headCheck : List ℕ → Check
 headCheck bytes = firstIn (headChecks bytes)
 
 -- refusals 5 and 6, of the records in order
-unfoldable pub recordsCheck : List ℕ → Check
-recordsCheck bytes = firstOf isClean Clean (recordCheck bytes) (taskCount bytes)
+unfoldable pub recordsCheck : ℕ → List ℕ → Check
+recordsCheck span bytes = firstOf isClean Clean (recordCheck span bytes) (taskCount bytes)
 
 -- refusal 7, of the rows in order
 unfoldable pub rowsCheck : List ℕ → Check
 rowsCheck bytes = firstOf isClean Clean (rowCheck bytes) (rowCount bytes)
 
+-- refusals 5 to 7, of all that stands behind the head: "then the rows in order for 7"
+unfoldable pub bodyCheck : ℕ → List ℕ → Check
+bodyCheck span bytes = firstIn (recordsCheck span bytes ∷ rowsCheck bytes ∷ [])
+
 -- "an answer slice has fewer than n words"
 unfoldable pub roomCheck : List ℕ → ℕ → ℕ → Check
 roomCheck bytes answers rounds = unless (both (leb (taskCount bytes) answers) (leb (taskCount bytes) rounds)) NoRoom
 
--- The whole of it, over the bytes and the lengths of the two answer slices: "then the rows in order for 7".
-unfoldable pub tableCheck : List ℕ → ℕ → ℕ → Check
-tableCheck bytes answers rounds =
-    firstIn (headCheck bytes ∷ recordsCheck bytes ∷ rowsCheck bytes ∷ roomCheck bytes answers rounds ∷ [])
+-- The whole of it, over the bytes and the lengths of the two answer slices.
+unfoldable pub tableCheckSpanning : ℕ → List ℕ → ℕ → ℕ → Check
+tableCheckSpanning span bytes answers rounds =
+    firstIn (headCheck bytes ∷ bodyCheck span bytes ∷ roomCheck bytes answers rounds ∷ [])
+
+-- by document 01's rules: a deadline spans one period
+abbrev pub tableCheck : List ℕ → ℕ → ℕ → Check
+tableCheck bytes answers rounds = tableCheckSpanning 1 bytes answers rounds
 
 -- how many records, and how many rows, are read before a fault or the end
-abbrev pub recordsRead : List ℕ → ℕ
-recordsRead bytes = cleanCount isClean Clean (recordCheck bytes) (taskCount bytes)
+abbrev pub recordsRead : ℕ → List ℕ → ℕ
+recordsRead span bytes = cleanCount isClean Clean (recordCheck span bytes) (taskCount bytes)
 
 abbrev pub rowsRead : List ℕ → ℕ
 rowsRead bytes = cleanCount isClean Clean (rowCheck bytes) (rowCount bytes)

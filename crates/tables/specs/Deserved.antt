@@ -7,7 +7,7 @@ use Rattle.tables.specs.declared.Refusal.{Refusal}
 use Rattle.tables.specs.declared.Refusal.the-variants.{TooShort, UnknownVersion, CountOutOfRange, LengthsDiffer, NumberOutOfRange, PriorityOutOfOrder, SectionRow, NoRoom, NotPlayable}
 use Rattle.tables.specs.Layout.{layoutOf, taskCount, rowCount}
 use Rattle.tables.specs.Fields.{CountField, countOrder, countRefusal, recordOrder, refusalInRecord, rowOrder, refusalInRow}
-use Rattle.tables.specs.Meaning.{LongEnough, VersionKnown, CountRight, CountsRight, LengthsEqual, RecordFieldRight, RowFieldRight, RoomFor, HeadRight, RecordsRight, TableRight}
+use Rattle.tables.specs.Meaning.{LongEnough, VersionKnown, CountRight, CountsRight, LengthsEqual, RecordFieldRight, RowFieldRight, RoomFor, HeadRight, RecordsRight, TableRightSpanning}
 
 -- every field of a list keeps its rule
 abbrev pub Each : {F : Type 0} → (F → Type 0) → List F → Type 0
@@ -37,25 +37,29 @@ pub record Fault {F : Type 0} (Right : ℕ → F → Type 0) (order : List F) (r
   pub first : FirstBroken (Right i) order field
   pub given : refusal ≡ refusalOf i field
 
-abbrev pub RecordFault : List ℕ → Refusal → Type 0
-RecordFault bytes refusal = Fault (RecordFieldRight bytes) recordOrder (refusalInRecord (layoutOf bytes)) (taskCount bytes) refusal
+abbrev pub RecordFault : ℕ → List ℕ → Refusal → Type 0
+RecordFault span bytes refusal = Fault (RecordFieldRight span bytes) recordOrder (refusalInRecord (layoutOf bytes)) (taskCount bytes) refusal
 
 abbrev pub RowFault : List ℕ → Refusal → Type 0
 RowFault bytes refusal = Fault (RowFieldRight bytes) rowOrder (refusalInRow (layoutOf bytes) (taskCount bytes)) (rowCount bytes) refusal
 
 -- When a refusal is deserved: its rule is broken, at its place, and every check before it passes. For 3, 5, 6 and 7 the place is the
 -- first byte of the first field, in the order tested, that breaks its rule.
-abbrev pub Deserved : List ℕ → ℕ → ℕ → Refusal → Type 0
-Deserved bytes answers rounds TooShort = ¬ LongEnough bytes
-Deserved bytes answers rounds UnknownVersion = LongEnough bytes × (¬ VersionKnown bytes)
-Deserved bytes answers rounds (CountOutOfRange place) =
+abbrev pub DeservedSpanning : ℕ → List ℕ → ℕ → ℕ → Refusal → Type 0
+DeservedSpanning span bytes answers rounds TooShort = ¬ LongEnough bytes
+DeservedSpanning span bytes answers rounds UnknownVersion = LongEnough bytes × (¬ VersionKnown bytes)
+DeservedSpanning span bytes answers rounds (CountOutOfRange place) =
     LongEnough bytes × VersionKnown bytes × CountFault bytes (CountOutOfRange place)
-Deserved bytes answers rounds LengthsDiffer =
+DeservedSpanning span bytes answers rounds LengthsDiffer =
     LongEnough bytes × VersionKnown bytes × CountsRight bytes × (¬ LengthsEqual bytes)
-Deserved bytes answers rounds (NumberOutOfRange place) = HeadRight bytes × RecordFault bytes (NumberOutOfRange place)
-Deserved bytes answers rounds (PriorityOutOfOrder place) = HeadRight bytes × RecordFault bytes (PriorityOutOfOrder place)
-Deserved bytes answers rounds (SectionRow place) =
-    HeadRight bytes × RecordsRight bytes (taskCount bytes) × RowFault bytes (SectionRow place)
-Deserved bytes answers rounds NoRoom = TableRight bytes × (¬ RoomFor bytes answers rounds)
+DeservedSpanning span bytes answers rounds (NumberOutOfRange place) = HeadRight bytes × RecordFault span bytes (NumberOutOfRange place)
+DeservedSpanning span bytes answers rounds (PriorityOutOfOrder place) = HeadRight bytes × RecordFault span bytes (PriorityOutOfOrder place)
+DeservedSpanning span bytes answers rounds (SectionRow place) =
+    HeadRight bytes × RecordsRight span bytes (taskCount bytes) × RowFault bytes (SectionRow place)
+DeservedSpanning span bytes answers rounds NoRoom = TableRightSpanning span bytes × (¬ RoomFor bytes answers rounds)
 -- no rule of document 01: the analysis never gives it
-Deserved bytes answers rounds NotPlayable = ⊥
+DeservedSpanning span bytes answers rounds NotPlayable = ⊥
+
+-- by document 01's rules: a deadline spans one period
+abbrev pub Deserved : List ℕ → ℕ → ℕ → Refusal → Type 0
+Deserved bytes answers rounds refusal = DeservedSpanning 1 bytes answers rounds refusal

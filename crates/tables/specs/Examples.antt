@@ -8,7 +8,7 @@ use lib.ListN.{set}
 use Rattle.tables.specs.declared.Check.{Check}
 use Rattle.tables.specs.declared.Check.the-variants.{Clean, Refused}
 use Rattle.tables.specs.Refusals.{numberOf, placeOf}
-use Rattle.tables.specs.Checks.{tableCheck}
+use Rattle.tables.specs.Checks.{tableCheck, tableCheckSpanning}
 
 -- version 1: two tasks, (9, 5, 9) and (30, 4, 30), and two rows; the second record begins at byte 22, the second row at byte 45
 abbrev pub right : List ℕ
@@ -92,6 +92,19 @@ wantedOf c = c .number ∷ c .place ∷ []
 abbrev pub twice : List ℕ
 twice = set (set right 26 0) 22 2
 
+-- the deadline of the second task 120, which is four of its periods, and 121; its period 300,000 and its deadline 1,000,000, and one more
+abbrev pub fourPeriods : List ℕ
+fourPeriods = set right 34 120
+
+abbrev pub longer : List ℕ
+longer = set right 34 121
+
+abbrev pub longest : List ℕ
+longest = set (set (set (set (set (set right 24 4) 25 147) 26 224) 32 15) 33 66) 34 64
+
+abbrev pub tooLong : List ℕ
+tooLong = set longest 34 65
+
 pub record PlacesDrawn : Type 0 where
   pub clean : tableCheck right 2 2 ≡ Clean
   pub places : map (toldOf right) changes ≡ map wantedOf changes
@@ -99,3 +112,9 @@ pub record PlacesDrawn : Type 0 where
   pub twoFaults : told (tableCheck twice 2 2) ≡ 5 ∷ 23 ∷ []
   pub cleanTwo : tableCheck rightTwo 2 2 ≡ Clean
   pub placesTwo : map (toldOf rightTwo) changesTwo ≡ map wantedOf changesTwo
+  -- a deadline past the period is refused where it may span one, and right where it may span four: up to 4 T, and to 1,000,000
+  pub pastPeriod : told (tableCheck fourPeriods 2 2) ≡ 5 ∷ 31 ∷ []
+  pub spansFour : tableCheckSpanning 4 fourPeriods 2 2 ≡ Clean
+  pub pastFour : told (tableCheckSpanning 4 longer 2 2) ≡ 5 ∷ 31 ∷ []
+  pub longestRight : tableCheckSpanning 4 longest 2 2 ≡ Clean
+  pub pastLongest : told (tableCheckSpanning 4 tooLong 2 2) ≡ 5 ∷ 31 ∷ []

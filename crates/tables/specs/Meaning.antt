@@ -7,6 +7,7 @@ use mathlib.Core.List.{List}
 use lib.ListN.{length}
 use Rattle.model.specs.Tables.{Row}
 use Rattle.tables.specs.Fields.{CountField, taskCountField, rowCountField, RecordField, periodField, costField, deadlineField, earliestField, latestField, priorityField, RowField, placeField, semaphoreField, longestField, orderField}
+use Rattle.tables.specs.Rules.{longestDeadline}
 use Rattle.tables.specs.Layout.{versionOf, layoutOf, statedLength, taskCount, rowCount, lengthFor, rowAt, priorityIn, periodIn, costIn, deadlineIn, earliestIn, latestIn}
 
 -- 1: "fewer than 5 bytes"
@@ -45,17 +46,18 @@ pub record RowsRise (before row : Row) : Type 0 where
   pub byPlace : before .place ≤ row .place
   pub thenSemaphore : before .place ≡ row .place → before .semaphore < row .semaphore
 
--- 5: "T and C are 1 to 1,000,000. D is 1 to T. J is 0 to 1,000,000."; "earliest at most latest, both at most 1,000,000"; and 6
-abbrev pub RecordFieldRight : List ℕ → ℕ → RecordField → Type 0
-RecordFieldRight bytes i periodField = Within 1 1000000 (periodIn bytes i)
-RecordFieldRight bytes i costField = Within 1 1000000 (costIn bytes i)
-RecordFieldRight bytes i deadlineField = Within 1 (periodIn bytes i) (deadlineIn bytes i)
-RecordFieldRight bytes i earliestField = Within 0 1000000 (earliestIn bytes i)
-RecordFieldRight bytes i latestField = Within (earliestIn bytes i) 1000000 (latestIn bytes i)
-RecordFieldRight bytes i priorityField = PriorityInOrder bytes i
+-- 5: "T and C are 1 to 1,000,000. D is 1 to T. J is 0 to 1,000,000."; "earliest at most latest, both at most 1,000,000"; and 6. A
+-- deadline may span so many periods.
+abbrev pub RecordFieldRight : ℕ → List ℕ → ℕ → RecordField → Type 0
+RecordFieldRight span bytes i periodField = Within 1 1000000 (periodIn bytes i)
+RecordFieldRight span bytes i costField = Within 1 1000000 (costIn bytes i)
+RecordFieldRight span bytes i deadlineField = Within 1 (longestDeadline span (periodIn bytes i)) (deadlineIn bytes i)
+RecordFieldRight span bytes i earliestField = Within 0 1000000 (earliestIn bytes i)
+RecordFieldRight span bytes i latestField = Within (earliestIn bytes i) 1000000 (latestIn bytes i)
+RecordFieldRight span bytes i priorityField = PriorityInOrder bytes i
 
-abbrev pub RecordRight : List ℕ → ℕ → Type 0
-RecordRight bytes i = (field : RecordField) → RecordFieldRight bytes i field
+abbrev pub RecordRight : ℕ → List ℕ → ℕ → Type 0
+RecordRight span bytes i = (field : RecordField) → RecordFieldRight span bytes i field
 
 -- 7: "A section row names a place 0 to n−1, a semaphore 1 to 16 and a length 1 to that task's C.", and the order
 abbrev pub RowFieldRight : List ℕ → ℕ → RowField → Type 0
@@ -80,14 +82,22 @@ pub record HeadRight (bytes : List ℕ) : Type 0 where
   pub lengths : LengthsEqual bytes
 
 -- the records before record i break no rule, and so for the rows before row k
-abbrev pub RecordsRight : List ℕ → ℕ → Type 0
-RecordsRight bytes i = (j : ℕ) → j < i → RecordRight bytes j
+abbrev pub RecordsRight : ℕ → List ℕ → ℕ → Type 0
+RecordsRight span bytes i = (j : ℕ) → j < i → RecordRight span bytes j
 
 abbrev pub RowsRight : List ℕ → ℕ → Type 0
 RowsRight bytes k = (j : ℕ) → j < k → RowRight bytes j
 
 -- the table breaks no rule
-pub record TableRight (bytes : List ℕ) : Type 0 where
+pub record TableRightSpanning (span : ℕ) (bytes : List ℕ) : Type 0 where
   pub head : HeadRight bytes
-  pub records : RecordsRight bytes (taskCount bytes)
+  pub records : RecordsRight span bytes (taskCount bytes)
   pub rows : RowsRight bytes (rowCount bytes)
+
+-- of document 01's, where a deadline spans one period
+abbrev pub TableRight : List ℕ → Type 0
+TableRight bytes = TableRightSpanning 1 bytes
+
+-- "D is 1 to T": that is what one period says of a T that is right
+abbrev pub OnePeriod : Type 0
+OnePeriod = (period : ℕ) → Within 1 1000000 period → longestDeadline 1 period ≡ period

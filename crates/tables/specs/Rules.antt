@@ -1,6 +1,6 @@
 -- The rules of document 01 ("The table's bytes"), as tests.
 -- Assumes nothing.
-use Prim.Native.Nat.{ℕ, _-_}
+use Prim.Native.Nat.{ℕ, _*_, _-_, min}
 use mathlib.Core.Bool.{Bool}
 use mathlib.Core.List.{List}
 use lib.Dec.{eqb, leb, ltb}
@@ -30,15 +30,20 @@ unfoldable pub priorityFits : List ℕ → ℕ → Bool
 priorityFits bytes i =
     both (leb 1 (taskAt bytes i .priority)) (either (eqb i 0) (ltb (taskAt bytes i .priority) (taskAt bytes (i - 1) .priority)))
 
+-- The longest deadline of a task of that period, where a deadline may span so many periods: that many, and no more than 1,000,000
+-- ticks. One period is document 01's rule, "D is 1 to T": no T is above 1,000,000.
+abbrev pub longestDeadline : ℕ → ℕ → ℕ
+longestDeadline span period = min (span * period) 1000000
+
 -- "T and C are 1 to 1,000,000. D is 1 to T. J is 0 to 1,000,000."; "earliest at most latest, both at most 1,000,000"; and
--- the priority, whose test needs the record before
-unfoldable pub recordTest : Task → Bool → RecordField → Bool
-recordTest t inOrder periodField = between 1 1000000 (t .period)
-recordTest t inOrder costField = between 1 1000000 (t .cost)
-recordTest t inOrder deadlineField = between 1 (t .period) (t .deadline)
-recordTest t inOrder earliestField = between 0 1000000 (t .earliest)
-recordTest t inOrder latestField = between (t .earliest) 1000000 (t .latest)
-recordTest t inOrder priorityField = inOrder
+-- the priority, whose test needs the record before. D is 1 to `span` times T.
+unfoldable pub recordTest : ℕ → Task → Bool → RecordField → Bool
+recordTest span t inOrder periodField = between 1 1000000 (t .period)
+recordTest span t inOrder costField = between 1 1000000 (t .cost)
+recordTest span t inOrder deadlineField = between 1 (longestDeadline span (t .period)) (t .deadline)
+recordTest span t inOrder earliestField = between 0 1000000 (t .earliest)
+recordTest span t inOrder latestField = between (t .earliest) 1000000 (t .latest)
+recordTest span t inOrder priorityField = inOrder
 
 -- "Rows strictly rise by place, then semaphore."
 unfoldable pub rowAfter : Row → Row → Bool

@@ -49,6 +49,9 @@ pub const MOST_TICKS: u32 = 1000000;
 
 pub const MOST_SEMAPHORE: u32 = 16;
 
+// How many periods a deadline may span: "D is 1 to T" (document 01).
+pub const ONE_PERIOD: u32 = 1;
+
 // A byte's place in the table, counted from its first byte. It is no task's place.
 pub struct Offset(pub usize);
 

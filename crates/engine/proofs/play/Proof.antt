@@ -1,40 +1,50 @@
--- `engine::play` meets its contract: a wrong head is refused, and a right one goes on.
+-- `engine::play` meets its contract: the head, the columns, what is read into them, and the play.
 -- Assumes nothing.
+use native.Mathlib.Omega.{arith}
+use mathlib.Core.Path.{refl, sym, _∙_}
+use Rattle.reading.proofs.ColumnLaws.{may-read, table-held}
+use Rattle.engine.proofs.PlayedLaws.{head-refused, body-refused, numbers-held}
 use borrow.Author.Needs.{needs}
-use mathlib.Core.Path.{sym, _∙_}
-use Rattle.engine.proofs.PlayedLaws.{head-refused}
 use Rattle.engine.proofs.play.Statement.{statement}
 use Rattle.engine.proofs.play.Tie as tie
 
-check-requires : tie.Need-check-requires
-check-requires c κs = search needs
-
-enum-told : tie.Need-enum-told
-enum-told c = search needs
-
-after-head-requires : tie.Need-after-head-requires
-after-head-requires c κs = sym (c .before .before .before .check .ensures) ∙ c .before .enum-told .given .1
-
-enum-known-checked : tie.Need-enum-known-checked
-enum-known-checked c = search needs
-
-same-length : tie.Need-same-length
-same-length c = search needs
-
 returns : tie.Need-returns
-returns c = search needs
+returns c = head-refused _ _ _ (sym (c .before .head .given .1) ∙ c .before .before .before .check .ensures)
+
+read-requires : tie.Need-read-requires
+read-requires c κs = may-read _ _ _ (c .before .before .before .before .before .before .before .before .before .before .before .check .ensures) (c .before .before .before .before .before .before .before .before .before .enum-told .given .1) _ _ refl refl refl refl refl refl refl refl refl (omega arith)
 
 returns-2 : tie.Need-returns-2
-returns-2 c = head-refused _ _ _ (sym (c .before .checked .given .1) ∙ c .before .before .before .check .ensures)
+returns-2 c = body-refused _ _ _ _ (c .before .before .before .before .before .before .before .before .before .before .before .before .before .before .before .before .before .before .before .before .before .before .before .before .check .ensures) (c .before .before .before .before .before .before .before .before .before .before .before .before .before .before .before .before .before .before .before .before .before .before .enum-told .given .1) (sym (c .before .body .given .1) ∙ c .before .before .before .before .before .before .before .before .before .before .before .before .read .ensures .0)
+
+play-columns-requires : tie.Need-play-columns-requires
+play-columns-requires c κs = numbers-held _ _ _ (table-held _ _ _ (c .before .before .before .before .before .before .before .before .before .before .before .before .before .before .before .before .before .before .before .before .before .before .before .before .before .before .before .before .check .ensures) (c .before .before .before .before .before .before .before .before .before .before .before .before .before .before .before .before .before .before .before .before .before .before .before .before .before .before .enum-told .given .1) _ _ refl refl refl refl refl refl refl refl refl _ _ _ (c .before .before .before .before .before .before .before .before .before .before .before .before .before .before .before .before .read .ensures) (c .before .before .before .before .before .enum-told2 .given .1))
 
 pub play-spec : {M : Type 1} → statement M
 play-spec =
     tie.close
     (tie.spec
-    check-requires
-    enum-told
-    after-head-requires
-    enum-known-checked
-    same-length
+    (λ c κs. search needs)
+    (λ c. search needs)
     returns
-    returns-2)
+    (λ c. search needs)
+    (λ c. search needs)
+    (λ c. search needs)
+    (λ c. search needs)
+    (λ c. search needs)
+    (λ c. search needs)
+    (λ c. search needs)
+    (λ c. search needs)
+    (λ c. search needs)
+    (λ c. search needs)
+    read-requires
+    (λ c. search needs)
+    returns-2
+    (λ c. search needs)
+    (λ c. search needs)
+    (λ c. search needs)
+    (λ c. search needs)
+    (λ c. search needs)
+    play-columns-requires
+    (λ c. search needs)
+    (λ c. search needs))

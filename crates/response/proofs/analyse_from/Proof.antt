@@ -1,44 +1,56 @@
--- `response::analyse_from` meets its contract: a wrong head is refused, and a right one goes on.
+-- `response::analyse_from` meets its contract: the head, the columns, what is read into them, and the answers.
 -- Assumes nothing.
-use mathlib.Core.Path.{sym, _∙_}
-use Rattle.response.proofs.OutcomeLaws.{head-refused}
+use native.Mathlib.Omega.{arith}
+use mathlib.Core.Path.{refl, sym, _∙_}
+use Rattle.reading.proofs.ColumnLaws.{may-read, table-held}
+use Rattle.response.proofs.OutcomeLaws.{head-refused, body-refused}
 use borrow.Author.Needs.{needs}
 use Rattle.response.proofs.analyse_from.Statement.{statement}
 use Rattle.response.proofs.analyse_from.Tie as tie
 
-check-requires : tie.Need-check-requires
-check-requires c κs = search needs
-
-enum-told : tie.Need-enum-told
-enum-told c = search needs
-
-after-head-requires : tie.Need-after-head-requires
-after-head-requires c κs = sym (c .before .before .before .before .check .ensures) ∙ c .before .before .enum-told .given .1
-
-enum-known-checked : tie.Need-enum-known-checked
-enum-known-checked c = search needs
-
-same-length : tie.Need-same-length
-same-length c = search needs
-
-same-length-2 : tie.Need-same-length-2
-same-length-2 c = search needs
-
 returns : tie.Need-returns
-returns c = search needs
+returns c = head-refused _ _ _ _ _ (sym (c .before .head .given .1) ∙ c .before .before .before .check .ensures)
+
+read-requires : tie.Need-read-requires
+read-requires c κs = may-read _ _ _ (c .before .before .before .before .before .before .before .before .before .before .before .check .ensures) (c .before .before .before .before .before .before .before .before .before .enum-told .given .1) _ _ refl refl refl refl refl refl refl refl refl (omega arith)
 
 returns-2 : tie.Need-returns-2
-returns-2 c = head-refused _ _ _ _ _ (sym (c .before .checked .given .1) ∙ c .before .before .before .check .ensures)
+returns-2 c = body-refused _ _ _ _ _ _ (c .before .before .before .before .before .before .before .before .before .before .before .before .before .before .before .before .before .before .before .before .before .before .before .before .check .ensures) (c .before .before .before .before .before .before .before .before .before .before .before .before .before .before .before .before .before .before .before .before .before .before .enum-told .given .1) (sym (c .before .body .given .1) ∙ c .before .before .before .before .before .before .before .before .before .before .before .before .read .ensures .0)
+
+answer-requires : tie.Need-answer-requires
+answer-requires c κs = table-held _ _ _ (c .before .before .before .before .before .before .before .before .before .before .before .before .before .before .before .before .before .before .before .before .before .before .before .before .before .before .before .before .before .before .before .before .before .before .check .ensures) (c .before .before .before .before .before .before .before .before .before .before .before .before .before .before .before .before .before .before .before .before .before .before .before .before .before .before .before .before .before .before .before .before .enum-told .given .1) _ _ refl refl refl refl refl refl refl refl refl _ _ _ (c .before .before .before .before .before .before .before .before .before .before .before .before .before .before .before .before .before .before .before .before .before .before .read .ensures) (c .before .before .before .before .before .before .before .before .before .before .before .enum-told2 .given .1)
 
 pub analyse-from-spec : {M : Type 1} → statement M
 analyse-from-spec =
     tie.close
     (tie.spec
-    check-requires
-    enum-told
-    after-head-requires
-    enum-known-checked
-    same-length
-    same-length-2
+    (λ c κs. search needs)
+    (λ c. search needs)
     returns
-    returns-2)
+    (λ c. search needs)
+    (λ c. search needs)
+    (λ c. search needs)
+    (λ c. search needs)
+    (λ c. search needs)
+    (λ c. search needs)
+    (λ c. search needs)
+    (λ c. search needs)
+    (λ c. search needs)
+    (λ c. search needs)
+    read-requires
+    (λ c. search needs)
+    returns-2
+    (λ c. search needs)
+    (λ c. search needs)
+    (λ c. search needs)
+    (λ c. search needs)
+    (λ c. search needs)
+    (λ c. search needs)
+    (λ c. search needs)
+    (λ c. search needs)
+    (λ c. search needs)
+    (λ c. search needs)
+    answer-requires
+    (λ c. search needs)
+    (λ c. search needs)
+    (λ c. search needs))

@@ -7,17 +7,8 @@ use borrow.Author.Needs.{needs}
 use Rattle.response.proofs.packed_from.Statement.{statement}
 use Rattle.response.proofs.packed_from.Tie as tie
 
-analyse-from-requires : tie.Need-analyse-from-requires
-analyse-from-requires c κs = search needs
-
 pack-requires : tie.Need-pack-requires
 pack-requires c κs = rw (c .before .before .before .before .analyse-from .ensures .verdictIs) (verdict-place _ _ _)
-
-same-length : tie.Need-same-length
-same-length c = search needs
-
-same-length-2 : tie.Need-same-length-2
-same-length-2 c = search needs
 
 returns : tie.Need-returns
 returns c =
@@ -30,4 +21,4 @@ returns c =
 
 pub packed-from-spec : {M : Type 1} → statement M
 packed-from-spec =
-    tie.close (tie.spec analyse-from-requires pack-requires same-length same-length-2 returns)
+    tie.close (tie.spec (λ c κs. search needs) pack-requires (λ c. search needs) (λ c. search needs) returns)

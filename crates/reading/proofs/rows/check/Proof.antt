@@ -12,9 +12,6 @@ use borrow.Author.Needs.{needs}
 use Rattle.reading.proofs.rows.check.Statement.{statement}
 use Rattle.reading.proofs.rows.check.Tie as tie
 
-add-t8 : tie.Need-add-t8
-add-t8 c = search needs
-
 returns : tie.Need-returns
 unfolding rowTest
 returns c =
@@ -22,15 +19,6 @@ returns c =
     (tests-fail _ _ [] _ placeField
     tt
     (le-ltb _ _ (c .if1 .taken)))
-
-wide-requires : tie.Need-wide-requires
-wide-requires c κs = search needs
-
-within-requires : tie.Need-within-requires
-within-requires c κs = search needs
-
-add-t13 : tie.Need-add-t13
-add-t13 c = search needs
 
 returns-2 : tie.Need-returns-2
 unfolding rowTest
@@ -40,18 +28,6 @@ returns-2 c =
     (lt-ltb _ _ (c .before .before .before .if1 .left), tt)
     (ap (between 1 16) (sym (c .before .before .wide .ensures .0)) ∙ refuted (c .before .within .ensures) (c .if2 .taken)))
 
-mul-within : tie.Need-mul-within
-mul-within c = search needs
-
-shared-slice-read-within : tie.Need-shared-slice-read-within
-shared-slice-read-within c = search needs
-
-within-requires-2 : tie.Need-within-requires-2
-within-requires-2 c κs = search needs
-
-add-t18 : tie.Need-add-t18
-add-t18 c = search needs
-
 returns-3 : tie.Need-returns-3
 unfolding rowTest
 returns-3 c =
@@ -59,12 +35,6 @@ returns-3 c =
     (tests-fail _ _ (placeField ∷ semaphoreField ∷ []) _ longestField
     (lt-ltb _ _ (c .before .before .before .before .before .before .if1 .left), (ap (between 1 16) (sym (c .before .before .before .before .before .wide .ensures .0)) ∙ confirmed (c .before .before .before .before .within .ensures) (c .before .before .before .if2 .left), tt))
     (refuted (c .before .within2 .ensures) (c .if3 .taken)))
-
-key-requires : tie.Need-key-requires
-key-requires c κs = search needs
-
-add-t21 : tie.Need-add-t21
-add-t21 c = search needs
 
 returns-4 : tie.Need-returns-4
 unfolding rowTest
@@ -85,18 +55,18 @@ pub check-spec : {M : Type 1} → statement M
 check-spec =
     tie.close
     (tie.spec
-    add-t8
+    (λ c. search needs)
     returns
-    wide-requires
-    within-requires
-    add-t13
+    (λ c κs. search needs)
+    (λ c κs. search needs)
+    (λ c. search needs)
     returns-2
-    mul-within
-    shared-slice-read-within
-    within-requires-2
-    add-t18
+    (λ c. search needs)
+    (λ c. search needs)
+    (λ c κs. search needs)
+    (λ c. search needs)
     returns-3
-    key-requires
-    add-t21
+    (λ c κs. search needs)
+    (λ c. search needs)
     returns-4
     returns-5)
