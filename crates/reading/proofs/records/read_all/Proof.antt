@@ -63,7 +63,7 @@ slice-write-deadlines : tie.Need-slice-write-deadlines Inv-loop μ-loop
 slice-write-deadlines c = omega (arith, c .before .before .before .before .before .loop .inv .1 .deadlines .long, c .before .before .before .before .before .loop .inv .1 .deadlines .room, c .before .before .before .before .loop-test .taken)
 
 sub-spreads : tie.Need-sub-spreads Inv-loop μ-loop
-sub-spreads c = clean-subtracts _ _ _ _ _ _ (c .before .before .before .check .ensures) (confirmed (c .before .before .is-clean .ensures) (c .before .if1 .left)) .delays
+sub-spreads c = omega (arith, clean-subtracts _ _ _ _ _ _ (c .before .before .before .check .ensures) (confirmed (c .before .before .is-clean .ensures) (c .before .if1 .left)) .delays)
 
 slice-write-spreads : tie.Need-slice-write-spreads Inv-loop μ-loop
 slice-write-spreads c = omega (arith, c .before .before .before .before .before .before .loop .inv .1 .spreads .long, c .before .before .before .before .before .before .loop .inv .1 .spreads .room, c .before .before .before .before .before .loop-test .taken)
