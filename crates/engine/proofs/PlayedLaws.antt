@@ -5,10 +5,9 @@ use native.Mathlib.Omega.{arith}
 use mathlib.Core.Path.{_≡_, refl, sym, _∙_, ap}
 use mathlib.Core.Bool.{false, true}
 use mathlib.Core.List.{List}
-use lib.Dec.{eqb, leb}
+use lib.Dec.{eqb}
 use lib.ListN.{length}
 use borrow.Author.Tests.{eq-eqb, ne-eqb, lt-leb}
-use Rattle.model.specs.Choice.{both}
 use Rattle.model.specs.Lists.{filled, largestTo, wordOf}
 use Rattle.model.specs.Tables.{Task}
 use Rattle.model.proofs.Lists.{largest-same}

@@ -19,9 +19,9 @@ use Rattle.tables.specs.declared.layout.Layout.{Layout}
 use Rattle.tables.specs.declared.Refusal.the-variants.{NumberOutOfRange}
 use Rattle.tables.specs.declared.Check.{Check}
 use Rattle.tables.specs.declared.Check.the-variants.{Clean, Refused}
-use Rattle.tables.specs.Layout.{layoutOf, taskCount, rowCount, recordStart, recordFrom, taskAt, priorityIn, Sound}
+use Rattle.tables.specs.Layout.{layoutOf, taskCount, recordStart, recordFrom, taskAt, priorityIn}
 use Rattle.tables.specs.Refusals.{isClean, offset, fieldsCheck}
-use Rattle.tables.specs.Fields.{periodField, costField, deadlineField, earliestField, latestField, priorityField, recordOrder, recordRefusal}
+use Rattle.tables.specs.Fields.{periodField, costField, deadlineField, earliestField, latestField, recordOrder, recordRefusal}
 use Rattle.tables.specs.Rules.{between, priorityFits, longestDeadline, recordTest}
 use Rattle.tables.specs.Checks.{recordCheck, recordsCheck, recordsRead}
 use Rattle.reading.specs.Reading.{HeadRead, delayAt, recordFault}

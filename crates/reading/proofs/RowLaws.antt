@@ -9,7 +9,7 @@ use mathlib.Core.Bool.{Bool, true, false}
 use mathlib.Core.List.{List}
 use mathlib.Core.Logic.{inl, inr}
 use lib.Dec.{eqb, ltb}
-use lib.ListN.{length, getD}
+use lib.ListN.{length}
 use borrow.Author.Tests.{ne-eqb, eq-eqb, lt-ltb, le-ltb, ltb-true}
 use Rattle.model.specs.Choice.{either}
 use Rattle.model.specs.Tables.{Row}

@@ -1,6 +1,6 @@
 // The task records: refusals 5 and 6, and the fields of each record, read once.
 ghost use mathlib.Core.Path.{_≡_};
-ghost use Prim.Native.Nat.{_+_, _*_, _≤_, _<_, min};
+ghost use Prim.Native.Nat.{_+_, _*_, _≤_, _<_};
 ghost use lib.ListN.{length};
 ghost use Rattle.tables.specs.Layout.{Sound, latestAt, earliestFrom, recordFrom};
 ghost use Rattle.tables.specs.Rules.{longestDeadline};

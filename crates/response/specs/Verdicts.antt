@@ -1,8 +1,6 @@
 -- What each verdict says in the documents' words: a number, and the place where it has one.
 -- Assumes nothing.
 use Prim.Native.Nat.{ℕ, _+_, _*_}
-use Rattle.model.specs.declared.Place.{Place}
-use Rattle.tables.specs.declared.Refusal.{Refusal}
 use Rattle.tables.specs.Refusals.{numberOf, placeOf}
 use Rattle.answering.specs.declared.Verdict.{Verdict}
 use Rattle.answering.specs.declared.Verdict.the-variants.{Refused, Schedulable, Late}

@@ -11,7 +11,6 @@ ghost use Rattle.equation.specs.declared.Start.the-variants.{EveryCost};
 pub use answering::Verdict;
 use answering::answer_all;
 pub use equation::Start;
-use model::Place;
 use tables::Check;
 use tables::ONE_PERIOD;
 use tables::ROW_COUNT_AT;
