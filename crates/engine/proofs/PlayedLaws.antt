@@ -32,7 +32,7 @@ use Rattle.machine.proofs.SameLaws.{played-same}
 use Rattle.answering.specs.declared.Verdict.{Verdict}
 use Rattle.answering.specs.declared.Verdict.the-variants as verdict
 use Rattle.answering.specs.Results.{isSchedulable, lateAt, resultOf}
-use Rattle.reading.specs.Columns.{RecordColumns, RowColumns, TableHeld}
+use Rattle.reading.specs.Columns.{RecordColumn, periodColumn, costColumn, deadlineColumn, latestColumn, RowColumn, TableHeld}
 use Rattle.response.proofs.TableLaws.{task-is, tasks-count}
 use Rattle.engine.specs.Run.{engineAnswer, periodsOf, costsOf, deadlinesOf}
 use Rattle.engine.specs.Outcome.{Played, isPlain, playCheck, playVerdict, playWords}
@@ -70,16 +70,16 @@ module _ (bytes answers : List ℕ) where
       (table-decides bytes (length answers) r (body-decides 1 bytes (length answers) (length answers) (sym is ∙ clean) r e))
 
 -- four of the columns that hold a table
-pub numbers-held : (bytes : List ℕ) (records : RecordColumns) (rows : RowColumns) → TableHeld 1 bytes records rows →
-    NumbersHeld bytes (records .periods) (records .costs) (records .deadlines) (records .latest)
+pub numbers-held : (bytes : List ℕ) (records : RecordColumn → List ℕ) (rows : RowColumn → List ℕ) → TableHeld 1 bytes records rows →
+    NumbersHeld bytes (records periodColumn) (records costColumn) (records deadlineColumn) (records latestColumn)
 numbers-held bytes records rows held =
     record {
       head = held .head;
       body = held .body;
-      periodsHeld = held .periods;
-      costsHeld = held .costs;
-      deadlinesHeld = held .deadlines;
-      latestHeld = held .latest;
+      periodsHeld = held .ofRecords periodColumn;
+      costsHeld = held .ofRecords costColumn;
+      deadlinesHeld = held .ofRecords deadlineColumn;
+      latestHeld = held .ofRecords latestColumn;
     }
 
 module _ (bytes periods costs deadlines latest : List ℕ) (held : NumbersHeld bytes periods costs deadlines latest) where

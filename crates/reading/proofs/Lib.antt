@@ -1,3 +1,4 @@
 pub mod ColumnLaws
 pub mod RecordLaws
 pub mod RowLaws
+pub mod HeldLaws

@@ -12,57 +12,54 @@ use Rattle.tables.specs.Refusals.{isClean}
 use Rattle.tables.specs.Checks.{headCheck, recordsCheck, bodyCheck, rowsRead}
 
 -- a word of each of six columns for each task, and of each of three for each section row
-pub record RecordColumns : Type 0 where
-  pub priorities : List ℕ
-  pub periods : List ℕ
-  pub costs : List ℕ
-  pub deadlines : List ℕ
-  pub spreads : List ℕ
-  pub latest : List ℕ
+pub data RecordColumn : Type 0 where
+  priorityColumn : RecordColumn
+  periodColumn : RecordColumn
+  costColumn : RecordColumn
+  deadlineColumn : RecordColumn
+  spreadColumn : RecordColumn
+  latestColumn : RecordColumn
 
-pub record RowColumns : Type 0 where
-  pub places : List ℕ
-  pub semaphores : List ℕ
-  pub longest : List ℕ
+pub data RowColumn : Type 0 where
+  placeColumn : RowColumn
+  semaphoreColumn : RowColumn
+  longestColumn : RowColumn
 
-abbrev pub recordColumns : (priorities periods costs deadlines spreads latest : List ℕ) → RecordColumns
-recordColumns priorities periods costs deadlines spreads latest =
-    record {
-      priorities = priorities;
-      periods = periods;
-      costs = costs;
-      deadlines = deadlines;
-      spreads = spreads;
-      latest = latest;
-    }
+-- the columns as they are lent, a list of words for each
+abbrev pub recordColumns : (priorities periods costs deadlines spreads latest : List ℕ) → RecordColumn → List ℕ
+recordColumns priorities periods costs deadlines spreads latest priorityColumn = priorities
+recordColumns priorities periods costs deadlines spreads latest periodColumn = periods
+recordColumns priorities periods costs deadlines spreads latest costColumn = costs
+recordColumns priorities periods costs deadlines spreads latest deadlineColumn = deadlines
+recordColumns priorities periods costs deadlines spreads latest spreadColumn = spreads
+recordColumns priorities periods costs deadlines spreads latest latestColumn = latest
 
-abbrev pub rowColumns : (places semaphores longest : List ℕ) → RowColumns
-rowColumns places semaphores longest = record { places = places; semaphores = semaphores; longest = longest }
+abbrev pub rowColumns : (places semaphores longest : List ℕ) → RowColumn → List ℕ
+rowColumns places semaphores longest placeColumn = places
+rowColumns places semaphores longest semaphoreColumn = semaphores
+rowColumns places semaphores longest longestColumn = longest
 
--- each column has a word for each of n tasks, of m rows
-pub record RecordRoom (n : ℕ) (columns : RecordColumns) : Type 0 where
-  pub priorities : n ≤ length (columns .priorities)
-  pub periods : n ≤ length (columns .periods)
-  pub costs : n ≤ length (columns .costs)
-  pub deadlines : n ≤ length (columns .deadlines)
-  pub spreads : n ≤ length (columns .spreads)
-  pub latest : n ≤ length (columns .latest)
+-- what a column has for the task at a place, and for a row
+abbrev pub recordIn : List ℕ → RecordColumn → ℕ → ℕ
+recordIn bytes priorityColumn = priorityIn bytes
+recordIn bytes periodColumn = periodIn bytes
+recordIn bytes costColumn = costIn bytes
+recordIn bytes deadlineColumn = deadlineIn bytes
+recordIn bytes spreadColumn = spreadIn bytes
+recordIn bytes latestColumn = latestIn bytes
 
-pub record RowRoom (m : ℕ) (columns : RowColumns) : Type 0 where
-  pub places : m ≤ length (columns .places)
-  pub semaphores : m ≤ length (columns .semaphores)
-  pub longest : m ≤ length (columns .longest)
+abbrev pub rowIn : List ℕ → RowColumn → ℕ → ℕ
+rowIn bytes placeColumn = placeIn bytes
+rowIn bytes semaphoreColumn = semaphoreIn bytes
+rowIn bytes longestColumn = longestIn bytes
 
--- the columns once the first k records, or rows, stand in them; later words are the old ones
-abbrev pub withRecords : List ℕ → ℕ → RecordColumns → RecordColumns
-withRecords bytes k old =
-    recordColumns (filled (priorityIn bytes) k (old .priorities)) (filled (periodIn bytes) k (old .periods))
-    (filled (costIn bytes) k (old .costs)) (filled (deadlineIn bytes) k (old .deadlines)) (filled (spreadIn bytes) k (old .spreads))
-    (filled (latestIn bytes) k (old .latest))
+-- each column has n words at least
+pub record Room {C : Type 0} (n : ℕ) (columns : C → List ℕ) : Type 0 where
+  pub long : (c : C) → n ≤ length (columns c)
 
-abbrev pub withRows : List ℕ → ℕ → RowColumns → RowColumns
-withRows bytes k old =
-    rowColumns (filled (placeIn bytes) k (old .places)) (filled (semaphoreIn bytes) k (old .semaphores)) (filled (longestIn bytes) k (old .longest))
+-- the first k words of each column are those of `value`, and the later ones are the old ones
+pub record Filled {C : Type 0} (value : C → ℕ → ℕ) (k : ℕ) (old new : C → List ℕ) : Type 0 where
+  pub is : (c : C) → new c ≡ filled (value c) k (old c)
 
 -- no row is read where a record is refused
 abbrev pub rowsReached : ℕ → List ℕ → ℕ
@@ -74,15 +71,8 @@ pub record Holds (words : List ℕ) (n : ℕ) (f : ℕ → ℕ) : Type 0 where
   pub read : (i : ℕ) → i < n → getD words i 0 ≡ f i
 
 -- nothing of the table is refused, and the columns hold its records and its rows
-pub record TableHeld (span : ℕ) (bytes : List ℕ) (records : RecordColumns) (rows : RowColumns) : Type 0 where
+pub record TableHeld (span : ℕ) (bytes : List ℕ) (records : RecordColumn → List ℕ) (rows : RowColumn → List ℕ) : Type 0 where
   pub head : headCheck bytes ≡ Clean
   pub body : bodyCheck span bytes ≡ Clean
-  pub priorities : Holds (records .priorities) (taskCount bytes) (priorityIn bytes)
-  pub periods : Holds (records .periods) (taskCount bytes) (periodIn bytes)
-  pub costs : Holds (records .costs) (taskCount bytes) (costIn bytes)
-  pub deadlines : Holds (records .deadlines) (taskCount bytes) (deadlineIn bytes)
-  pub spreads : Holds (records .spreads) (taskCount bytes) (spreadIn bytes)
-  pub latest : Holds (records .latest) (taskCount bytes) (latestIn bytes)
-  pub places : Holds (rows .places) (rowCount bytes) (placeIn bytes)
-  pub semaphores : Holds (rows .semaphores) (rowCount bytes) (semaphoreIn bytes)
-  pub longest : Holds (rows .longest) (rowCount bytes) (longestIn bytes)
+  pub ofRecords : (c : RecordColumn) → Holds (records c) (taskCount bytes) (recordIn bytes c)
+  pub ofRows : (c : RowColumn) → Holds (rows c) (rowCount bytes) (rowIn bytes c)

@@ -4,7 +4,7 @@ ghost use Prim.Native.Nat.{_≤_};
 ghost use Rattle.tables.specs.Layout.{taskCount, rowCount};
 ghost use Rattle.tables.specs.declared.Check.the-variants as check;
 ghost use Rattle.tables.specs.Checks.{headCheck, bodyCheck, recordsRead};
-ghost use Rattle.reading.specs.Columns.{recordColumns, rowColumns, RecordRoom, RowRoom, withRecords, withRows, rowsReached};
+ghost use Rattle.reading.specs.Columns.{recordColumns, rowColumns, recordIn, rowIn, Room, Filled, rowsReached};
 use tables::Check;
 use tables::ROW_COUNT_AT;
 use tables::TASK_COUNT_AT;
@@ -30,11 +30,11 @@ pub fn read(
     longest: &mut [u32],
 ) -> Check
     requires { ⌜ (headCheck (now table) ≡ check.Clean) × (span ≤ 4) ⌝ }
-    requires { ⌜ RecordRoom (taskCount (now table)) (recordColumns (now priorities) (now periods) (now costs) (now deadlines) (now spreads) (now latest)) ⌝ }
-    requires { ⌜ RowRoom (rowCount (now table)) (rowColumns (now places) (now semaphores) (now longest)) ⌝ }
+    requires { ⌜ Room (taskCount (now table)) (recordColumns (now priorities) (now periods) (now costs) (now deadlines) (now spreads) (now latest)) ⌝ }
+    requires { ⌜ Room (rowCount (now table)) (rowColumns (now places) (now semaphores) (now longest)) ⌝ }
     ensures { λ r. ⌜ r ≡ bodyCheck span (now (table .entry)) ⌝ }
-    ensures { λ r. ⌜ recordColumns (now (priorities .exit)) (now (periods .exit)) (now (costs .exit)) (now (deadlines .exit)) (now (spreads .exit)) (now (latest .exit)) ≡ withRecords (now (table .entry)) (recordsRead span (now (table .entry))) (recordColumns (now (priorities .entry)) (now (periods .entry)) (now (costs .entry)) (now (deadlines .entry)) (now (spreads .entry)) (now (latest .entry))) ⌝ }
-    ensures { λ r. ⌜ rowColumns (now (places .exit)) (now (semaphores .exit)) (now (longest .exit)) ≡ withRows (now (table .entry)) (rowsReached span (now (table .entry))) (rowColumns (now (places .entry)) (now (semaphores .entry)) (now (longest .entry))) ⌝ }
+    ensures { λ r. ⌜ Filled (recordIn (now (table .entry))) (recordsRead span (now (table .entry))) (recordColumns (now (priorities .entry)) (now (periods .entry)) (now (costs .entry)) (now (deadlines .entry)) (now (spreads .entry)) (now (latest .entry))) (recordColumns (now (priorities .exit)) (now (periods .exit)) (now (costs .exit)) (now (deadlines .exit)) (now (spreads .exit)) (now (latest .exit))) ⌝ }
+    ensures { λ r. ⌜ Filled (rowIn (now (table .entry))) (rowsReached span (now (table .entry))) (rowColumns (now (places .entry)) (now (semaphores .entry)) (now (longest .entry))) (rowColumns (now (places .exit)) (now (semaphores .exit)) (now (longest .exit))) ⌝ }
 {
     let layout = tables::layout::of(table[VERSION_AT]);
     let n = count(table[TASK_COUNT_AT]);

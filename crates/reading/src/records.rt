@@ -5,7 +5,7 @@ ghost use lib.ListN.{length};
 ghost use Rattle.tables.specs.Layout.{Sound, latestAt, earliestFrom, recordFrom};
 ghost use Rattle.tables.specs.Rules.{longestDeadline};
 ghost use Rattle.tables.specs.Checks.{recordsCheck, recordsRead};
-ghost use Rattle.reading.specs.Columns.{recordColumns, RecordRoom, withRecords};
+ghost use Rattle.reading.specs.Columns.{recordColumns, recordIn, Room, Filled};
 ghost use Rattle.reading.specs.Reading.{HeadRead, taskFrom, delayAt, recordFault};
 use model::Priority;
 use model::Ticks;
@@ -144,9 +144,9 @@ pub fn read_all(
     latest: &mut [u32],
 ) -> Check
     requires { ⌜ HeadRead (now table) layout n × (span ≤ 4) ⌝ }
-    requires { ⌜ RecordRoom n (recordColumns (now priorities) (now periods) (now costs) (now deadlines) (now spreads) (now latest)) ⌝ }
+    requires { ⌜ Room n (recordColumns (now priorities) (now periods) (now costs) (now deadlines) (now spreads) (now latest)) ⌝ }
     ensures { λ r. ⌜ r ≡ recordsCheck span (now (table .entry)) ⌝ }
-    ensures { λ r. ⌜ recordColumns (now (priorities .exit)) (now (periods .exit)) (now (costs .exit)) (now (deadlines .exit)) (now (spreads .exit)) (now (latest .exit)) ≡ withRecords (now (table .entry)) (recordsRead span (now (table .entry))) (recordColumns (now (priorities .entry)) (now (periods .entry)) (now (costs .entry)) (now (deadlines .entry)) (now (spreads .entry)) (now (latest .entry))) ⌝ }
+    ensures { λ r. ⌜ Filled (recordIn (now (table .entry))) (recordsRead span (now (table .entry))) (recordColumns (now (priorities .entry)) (now (periods .entry)) (now (costs .entry)) (now (deadlines .entry)) (now (spreads .entry)) (now (latest .entry))) (recordColumns (now (priorities .exit)) (now (periods .exit)) (now (costs .exit)) (now (deadlines .exit)) (now (spreads .exit)) (now (latest .exit))) ⌝ }
 {
     let mut highest = HIGHEST_PRIORITY;
     let mut at = HEAD_SIZE;

@@ -4,7 +4,7 @@ ghost use Prim.Native.Nat.{_+_, _≤_, _<_};
 ghost use lib.ListN.{length};
 ghost use Rattle.tables.specs.Layout.{rowFrom, rowCount, costIn};
 ghost use Rattle.tables.specs.Checks.{rowsCheck, rowsRead};
-ghost use Rattle.reading.specs.Columns.{rowColumns, RowRoom, withRows, Holds};
+ghost use Rattle.reading.specs.Columns.{rowColumns, rowIn, Room, Filled, Holds};
 ghost use Rattle.reading.specs.Reading.{HeadRead, rowOf, rowKey, rowFault};
 use model::Place;
 use model::Ticks;
@@ -88,9 +88,9 @@ pub fn read_all(
     longest: &mut [u32],
 ) -> Check
     requires { ⌜ HeadRead (now table) layout n × (m ≡ rowCount (now table)) ⌝ }
-    requires { ⌜ Holds (now costs) n (costIn (now table)) × RowRoom m (rowColumns (now places) (now semaphores) (now longest)) ⌝ }
+    requires { ⌜ Holds (now costs) n (costIn (now table)) × Room m (rowColumns (now places) (now semaphores) (now longest)) ⌝ }
     ensures { λ r. ⌜ r ≡ rowsCheck (now (table .entry)) ⌝ }
-    ensures { λ r. ⌜ rowColumns (now (places .exit)) (now (semaphores .exit)) (now (longest .exit)) ≡ withRows (now (table .entry)) (rowsRead (now (table .entry))) (rowColumns (now (places .entry)) (now (semaphores .entry)) (now (longest .entry))) ⌝ }
+    ensures { λ r. ⌜ Filled (rowIn (now (table .entry))) (rowsRead (now (table .entry))) (rowColumns (now (places .entry)) (now (semaphores .entry)) (now (longest .entry))) (rowColumns (now (places .exit)) (now (semaphores .exit)) (now (longest .exit))) ⌝ }
 {
     // below every key: no row stands before the first
     let mut before: u32 = 0;

@@ -16,7 +16,8 @@ use Rattle.tables.specs.Fields.{taskCountField, rowCountField, periodField, cos
 use Rattle.tables.specs.Layout.{taskCount, rowCount, taskAt, rowAt, tasksOf, tableOf, placeIn}
 use Rattle.tables.specs.Meaning.{TableRight}
 use Rattle.tables.proofs.LayoutLaws.{layout-sound}
-use Rattle.reading.proofs.ColumnLaws.{held-right, holds-filled}
+use Rattle.reading.proofs.ColumnLaws.{holds-filled}
+use Rattle.reading.proofs.HeldLaws.{held-right}
 use Rattle.equation.specs.declared.Start.{Start}
 use Rattle.equation.specs.Slices.{loads, loadAt}
 use Rattle.blocking.specs.Ceilings.{section, blockingOf}
@@ -27,17 +28,17 @@ use Rattle.answering.specs.Slices.{Decoded, decoded, answerIn, roundsIn, Decode
 use Rattle.answering.specs.declared.Verdict.{Verdict}
 use Rattle.response.specs.Outcome.{Outcome}
 use Rattle.response.proofs.OutcomeLaws.{answered}
-use Rattle.reading.specs.Columns.{RecordColumns, RowColumns, Holds, TableHeld}
+use Rattle.reading.specs.Columns.{RecordColumn, priorityColumn, periodColumn, costColumn, deadlineColumn, spreadColumn, latestColumn, RowColumn, placeColumn, semaphoreColumn, longestColumn, Holds, TableHeld}
 use Rattle.response.proofs.TableLaws as tables
 
 pub same-load : (a b : Load) → a .period ≡ b .period → a .cost ≡ b .cost → a .spread ≡ b .spread → a ≡ b
 same-load a b period cost spread = λ i. record { period = period i; cost = cost i; spread = spread i }
 
 -- the columns and what was found for each row, as one decoded table
-abbrev pub decodedFrom : RecordColumns → RowColumns → (owners tops : List ℕ) (m : ℕ) → Decoded
+abbrev pub decodedFrom : (RecordColumn → List ℕ) → (RowColumn → List ℕ) → (owners tops : List ℕ) (m : ℕ) → Decoded
 decodedFrom records rows owners tops m =
-    decoded (records .priorities) (records .periods) (records .costs) (records .deadlines) (records .spreads) (records .latest) owners tops
-    (rows .longest) m
+    decoded (records priorityColumn) (records periodColumn) (records costColumn) (records deadlineColumn) (records spreadColumn) (records latestColumn) owners tops
+    (rows longestColumn) m
 
 -- what the test for room says
 pub room-is : (n answers rounds : ℕ) → both (leb n answers) (leb n rounds) ≡ true → (n ≤ answers) × (n ≤ rounds)
@@ -45,7 +46,7 @@ room-is n answers rounds p =
     let b = both-true (leb n answers) (leb n rounds) p in
     (leb-true n answers (b .0), leb-true n rounds (b .1))
 
-module _ (bytes : List ℕ) (records : RecordColumns) (rows : RowColumns) (held : TableHeld 1 bytes records rows) (n m : ℕ)
+module _ (bytes : List ℕ) (records : RecordColumn → List ℕ) (rows : RowColumn → List ℕ) (held : TableHeld 1 bytes records rows) (n m : ℕ)
     (tasksCounted : n ≡ taskCount bytes) (rowsCounted : m ≡ rowCount bytes) where
   right : TableRight bytes
   right = held-right held
@@ -62,34 +63,34 @@ module _ (bytes : List ℕ) (records : RecordColumns) (rows : RowColumns) (held 
   few-rows : m ≤ 64
   few-rows = omega (arith, right .head .counts rowCountField .high, rowsCounted)
 
-  rows-held : RowsHeld (records .priorities) (rows .places) (rows .semaphores) m
+  rows-held : RowsHeld (records priorityColumn) (rows placeColumn) (rows semaphoreColumn) m
   rows-held =
       record {
-        placesLong = omega (arith, held .places .long, rowsCounted);
-        semaphoresLong = omega (arith, held .semaphores .long, rowsCounted);
+        placesLong = omega (arith, held .ofRows placeColumn .long, rowsCounted);
+        semaphoresLong = omega (arith, held .ofRows semaphoreColumn .long, rowsCounted);
         placesLow = λ k h.
-            rw (held .places .read k (row-inside h)) (omega (arith, place-inside k h, held .priorities .long, tasksCounted));
-        semaphoresLow = λ k h. rw (held .semaphores .read k (row-inside h)) (right .rows k (row-inside h) semaphoreField .high);
+            rw (held .ofRows placeColumn .read k (row-inside h)) (omega (arith, place-inside k h, held .ofRecords priorityColumn .long, tasksCounted));
+        semaphoresLow = λ k h. rw (held .ofRows semaphoreColumn .read k (row-inside h)) (right .rows k (row-inside h) semaphoreField .high);
       }
 
   -- what the ceilings ask
-  pub may-span : RowsHeld (records .priorities) (rows .places) (rows .semaphores) m × ((m ≤ 64) × (m ≤ 64))
+  pub may-span : RowsHeld (records priorityColumn) (rows placeColumn) (rows semaphoreColumn) m × ((m ≤ 64) × (m ≤ 64))
   may-span = (rows-held, (few-rows, few-rows))
 
   -- and what they leave
   module _ (owners tops oldOwners oldTops : List ℕ) (ownersLong : length oldOwners ≡ 64) (topsLong : length oldTops ≡ 64)
-      (left : (owners ≡ filled (ownerAt (records .priorities) (rows .places)) m oldOwners)
-      × (tops ≡ filled (topAt (records .priorities) (rows .places) (rows .semaphores) m) m oldTops)) where
-    ownersHeld : Holds owners m (ownerAt (records .priorities) (rows .places))
+      (left : (owners ≡ filled (ownerAt (records priorityColumn) (rows placeColumn)) m oldOwners)
+      × (tops ≡ filled (topAt (records priorityColumn) (rows placeColumn) (rows semaphoreColumn) m) m oldTops)) where
+    ownersHeld : Holds owners m (ownerAt (records priorityColumn) (rows placeColumn))
     ownersHeld = holds-filled _ _ _ _ (left .0) (omega (arith, few-rows))
 
-    topsHeld : Holds tops m (topAt (records .priorities) (rows .places) (rows .semaphores) m)
+    topsHeld : Holds tops m (topAt (records priorityColumn) (rows placeColumn) (rows semaphoreColumn) m)
     topsHeld = holds-filled _ _ _ _ (left .1) (omega (arith, few-rows))
 
-    longest-high : (k : ℕ) → k < m → getD (rows .longest) k 0 ≤ 1000000
+    longest-high : (k : ℕ) → k < m → getD (rows longestColumn) k 0 ≤ 1000000
     longest-high k h =
         let row = right .rows k (row-inside h) in
-        rw (held .longest .read k (row-inside h))
+        rw (held .ofRows longestColumn .read k (row-inside h))
         (omega (arith, row longestField .high, right .records (placeIn bytes k) (row placeField) costField .high))
 
     pub decoded-fits : DecodedFits (decodedFrom records rows owners tops m) n
@@ -98,27 +99,27 @@ module _ (bytes : List ℕ) (records : RecordColumns) (rows : RowColumns) (held 
           loadsFit =
               record {
                 few = omega (arith, right .head .counts taskCountField .high, layout-sound bytes (right .head .version) .few, tasksCounted);
-                periodsLong = omega (arith, held .periods .long, tasksCounted);
-                costsLong = omega (arith, held .costs .long, tasksCounted);
-                spreadsLong = omega (arith, held .spreads .long, tasksCounted);
+                periodsLong = omega (arith, held .ofRecords periodColumn .long, tasksCounted);
+                costsLong = omega (arith, held .ofRecords costColumn .long, tasksCounted);
+                spreadsLong = omega (arith, held .ofRecords spreadColumn .long, tasksCounted);
                 each = λ k h.
                     record {
-                      periodLow = rw (held .periods .read k (inside h)) (right .records k (inside h) periodField .low);
-                      costHigh = rw (held .costs .read k (inside h)) (right .records k (inside h) costField .high);
-                      spreadHigh = rw (held .spreads .read k (inside h)) (omega (arith, right .records k (inside h) latestField .high));
+                      periodLow = rw (held .ofRecords periodColumn .read k (inside h)) (right .records k (inside h) periodField .low);
+                      costHigh = rw (held .ofRecords costColumn .read k (inside h)) (right .records k (inside h) costField .high);
+                      spreadHigh = rw (held .ofRecords spreadColumn .read k (inside h)) (omega (arith, right .records k (inside h) latestField .high));
                     };
               };
-          prioritiesLong = omega (arith, held .priorities .long, tasksCounted);
-          deadlinesLong = omega (arith, held .deadlines .long, tasksCounted);
-          latestLong = omega (arith, held .latest .long, tasksCounted);
+          prioritiesLong = omega (arith, held .ofRecords priorityColumn .long, tasksCounted);
+          deadlinesLong = omega (arith, held .ofRecords deadlineColumn .long, tasksCounted);
+          latestLong = omega (arith, held .ofRecords latestColumn .long, tasksCounted);
           ownersLong = ownersHeld .long;
           topsLong = topsHeld .long;
-          longestLong = omega (arith, held .longest .long, rowsCounted);
-          costLow = λ i h. rw (held .costs .read i (inside h)) (right .records i (inside h) costField .low);
+          longestLong = omega (arith, held .ofRows longestColumn .long, rowsCounted);
+          costLow = λ i h. rw (held .ofRecords costColumn .read i (inside h)) (right .records i (inside h) costField .low);
           deadlineHigh = λ i h.
               let numbers = right .records i (inside h) in
-              rw (held .deadlines .read i (inside h)) (omega (arith, numbers deadlineField .high, numbers periodField .high));
-          latestHigh = λ i h. rw (held .latest .read i (inside h)) (right .records i (inside h) latestField .high);
+              rw (held .ofRecords deadlineColumn .read i (inside h)) (omega (arith, numbers deadlineField .high, numbers periodField .high));
+          latestHigh = λ i h. rw (held .ofRecords latestColumn .read i (inside h)) (right .records i (inside h) latestField .high);
           longestHigh = longest-high;
         }
 
@@ -126,42 +127,42 @@ module _ (bytes : List ℕ) (records : RecordColumns) (rows : RowColumns) (held 
       own : taskOf (tasksOf bytes) i ≡ taskAt bytes i
       own = tables.task-is bytes i (inside h)
 
-      blocking-is : largestTo (sectionAt owners tops (rows .longest) (getD (records .priorities) i 0)) m ≡ blockingOf (tableOf bytes) i
+      blocking-is : largestTo (sectionAt owners tops (rows longestColumn) (getD (records priorityColumn) i 0)) m ≡ blockingOf (tableOf bytes) i
       unfolding blockingOf
       blocking-is =
-          ap (λ (p : ℕ). largestTo (sectionAt owners tops (rows .longest) p) m)
-          (held .priorities .read i (inside h) ∙ sym (ap (λ (t : Task). t .priority) own))
-          ∙ blocking-agrees (tasksOf bytes) (rowAt bytes) m (records .priorities) (rows .places) (rows .semaphores) (rows .longest)
-          (λ k l. held .places .read k (row-inside l)) (λ k l. held .semaphores .read k (row-inside l)) (λ k l. held .longest .read k (row-inside l))
+          ap (λ (p : ℕ). largestTo (sectionAt owners tops (rows longestColumn) p) m)
+          (held .ofRecords priorityColumn .read i (inside h) ∙ sym (ap (λ (t : Task). t .priority) own))
+          ∙ blocking-agrees (tasksOf bytes) (rowAt bytes) m (records priorityColumn) (rows placeColumn) (rows semaphoreColumn) (rows longestColumn)
+          (λ k l. held .ofRows placeColumn .read k (row-inside l)) (λ k l. held .ofRows semaphoreColumn .read k (row-inside l)) (λ k l. held .ofRows longestColumn .read k (row-inside l))
           (λ k l.
-          held .priorities .read (placeIn bytes k) (inside (place-inside k l))
+          held .ofRecords priorityColumn .read (placeIn bytes k) (inside (place-inside k l))
           ∙ sym (ap (λ (t : Task). t .priority) (tables.task-is bytes (placeIn bytes k) (inside (place-inside k l)))))
           owners tops (ownersHeld .read) (topsHeld .read) (taskOf (tasksOf bytes) i .priority)
           ∙ ap
           (λ (c : ℕ). largestOf (section (tasksOf bytes) (tabulate (rowAt bytes) c) (taskOf (tasksOf bytes) i .priority)) (tabulate (rowAt bytes) c))
           rowsCounted
 
-      base-is : getD (records .costs) i 0 + largestTo (sectionAt owners tops (rows .longest) (getD (records .priorities) i 0)) m ≡ baseOf (tableOf bytes) i
+      base-is : getD (records costColumn) i 0 + largestTo (sectionAt owners tops (rows longestColumn) (getD (records priorityColumn) i 0)) m ≡ baseOf (tableOf bytes) i
       base-is =
-          let cost : getD (records .costs) i 0 ≡ taskOf (tasksOf bytes) i .cost =
-          held .costs .read i (inside h) ∙ sym (ap (λ (t : Task). t .cost) own) in
+          let cost : getD (records costColumn) i 0 ≡ taskOf (tasksOf bytes) i .cost =
+          held .ofRecords costColumn .read i (inside h) ∙ sym (ap (λ (t : Task). t .cost) own) in
           omega (arith, cost, blocking-is)
 
-      loads-agree : loads (records .periods) (records .costs) (records .spreads) i ≡ loadsOf (tasksOf bytes) i
+      loads-agree : loads (records periodColumn) (records costColumn) (records spreadColumn) i ≡ loadsOf (tasksOf bytes) i
       loads-agree =
           sym
-          (tables.loads-are bytes (right .records) (loadAt (records .periods) (records .costs) (records .spreads)) i (inside h)
+          (tables.loads-are bytes (right .records) (loadAt (records periodColumn) (records costColumn) (records spreadColumn)) i (inside h)
           (λ k l.
-          same-load (loadOf (taskAt bytes k)) (loadAt (records .periods) (records .costs) (records .spreads) k)
-          (sym (held .periods .read k (omega (arith, inside h))))
-          (sym (held .costs .read k (omega (arith, inside h))))
-          (sym (held .spreads .read k (omega (arith, inside h))))))
+          same-load (loadOf (taskAt bytes k)) (loadAt (records periodColumn) (records costColumn) (records spreadColumn) k)
+          (sym (held .ofRecords periodColumn .read k (omega (arith, inside h))))
+          (sym (held .ofRecords costColumn .read k (omega (arith, inside h))))
+          (sym (held .ofRecords spreadColumn .read k (omega (arith, inside h))))))
 
-      latest-is : getD (records .latest) i 0 ≡ taskOf (tasksOf bytes) i .latest
-      latest-is = held .latest .read i (inside h) ∙ sym (ap (λ (t : Task). t .latest) own)
+      latest-is : getD (records latestColumn) i 0 ≡ taskOf (tasksOf bytes) i .latest
+      latest-is = held .ofRecords latestColumn .read i (inside h) ∙ sym (ap (λ (t : Task). t .latest) own)
 
-      deadline-is : getD (records .deadlines) i 0 ≡ taskOf (tasksOf bytes) i .deadline
-      deadline-is = held .deadlines .read i (inside h) ∙ sym (ap (λ (t : Task). t .deadline) own)
+      deadline-is : getD (records deadlineColumn) i 0 ≡ taskOf (tasksOf bytes) i .deadline
+      deadline-is = held .ofRecords deadlineColumn .read i (inside h) ∙ sym (ap (λ (t : Task). t .deadline) own)
 
       answer-agrees : answerIn (decodedFrom records rows owners tops m) i ≡ answerOf (tableOf bytes) i
       unfolding answerIn answerOf

@@ -2,7 +2,7 @@
 -- Assumes nothing.
 use native.Mathlib.Omega.{arith}
 use mathlib.Core.Path.{refl, sym, _∙_}
-use Rattle.reading.proofs.ColumnLaws.{may-read, table-held}
+use Rattle.reading.proofs.HeldLaws.{may-read, table-held}
 use Rattle.engine.proofs.PlayedLaws.{head-refused, body-refused, numbers-held}
 use borrow.Author.Needs.{needs}
 use Rattle.engine.proofs.play.Statement.{statement}
@@ -12,13 +12,13 @@ returns : tie.Need-returns
 returns c = head-refused _ _ _ (sym (c .before .head .given .1) ∙ c .before .before .before .check .ensures)
 
 read-requires : tie.Need-read-requires
-read-requires c κs = may-read _ _ _ (c .before .before .before .before .before .before .before .before .before .before .before .check .ensures) (c .before .before .before .before .before .before .before .before .before .enum-told .given .1) _ _ refl refl refl refl refl refl refl refl refl (omega arith)
+read-requires c κs = may-read _ _ _ (c .before .before .before .before .before .before .before .before .before .before .before .check .ensures) (c .before .before .before .before .before .before .before .before .before .enum-told .given .1) _ _ _ _ _ _ _ _ _ refl refl refl refl refl refl refl refl refl (omega arith)
 
 returns-2 : tie.Need-returns-2
 returns-2 c = body-refused _ _ _ _ (c .before .before .before .before .before .before .before .before .before .before .before .before .before .before .before .before .before .before .before .before .before .before .before .before .check .ensures) (c .before .before .before .before .before .before .before .before .before .before .before .before .before .before .before .before .before .before .before .before .before .before .enum-told .given .1) (sym (c .before .body .given .1) ∙ c .before .before .before .before .before .before .before .before .before .before .before .before .read .ensures .0)
 
 play-columns-requires : tie.Need-play-columns-requires
-play-columns-requires c κs = numbers-held _ _ _ (table-held _ _ _ (c .before .before .before .before .before .before .before .before .before .before .before .before .before .before .before .before .before .before .before .before .before .before .before .before .before .before .before .before .check .ensures) (c .before .before .before .before .before .before .before .before .before .before .before .before .before .before .before .before .before .before .before .before .before .before .before .before .before .before .enum-told .given .1) _ _ refl refl refl refl refl refl refl refl refl _ _ _ (c .before .before .before .before .before .before .before .before .before .before .before .before .before .before .before .before .read .ensures) (c .before .before .before .before .before .enum-told2 .given .1))
+play-columns-requires c κs = numbers-held _ _ _ (table-held _ _ _ (c .before .before .before .before .before .before .before .before .before .before .before .before .before .before .before .before .before .before .before .before .before .before .before .before .before .before .before .before .check .ensures) (c .before .before .before .before .before .before .before .before .before .before .before .before .before .before .before .before .before .before .before .before .before .before .before .before .before .before .enum-told .given .1) _ _ _ _ _ _ _ _ _ refl refl refl refl refl refl refl refl refl _ _ _ (c .before .before .before .before .before .before .before .before .before .before .before .before .before .before .before .before .read .ensures) (c .before .before .before .before .before .enum-told2 .given .1))
 
 pub play-spec : {M : Type 1} → statement M
 play-spec =

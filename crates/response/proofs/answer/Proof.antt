@@ -3,7 +3,7 @@
 use native.Mathlib.Omega.{arith}
 use mathlib.Core.Path.{refl}
 use Rattle.model.proofs.Tests.{refuted, confirmed}
-use Rattle.reading.proofs.ColumnLaws.{held-right}
+use Rattle.reading.proofs.HeldLaws.{held-right}
 use Rattle.response.proofs.DecodedLaws.{room-is, may-span, decoded-fits, table-answered}
 use Rattle.response.proofs.OutcomeLaws.{no-room}
 use borrow.Author.Needs.{needs}
