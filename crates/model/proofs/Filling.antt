@@ -4,10 +4,10 @@ use Prim.Native.Nat.{ℕ, _+_, _≤_, _<_}
 use native.Mathlib.Decide.{decLt, ℕ-discrete}
 use native.Mathlib.Omega.{arith}
 use mathlib.Core.Path.{_≡_, refl, sym, _∙_, ap, subst}
-use mathlib.Core.List.{List, [], _∷_, _++_}
+use mathlib.Core.List.{List, _++_}
 use lib.ListN.{length, getD, set, drop, length-set}
 use lib.Seq.{ext-getD, getD-set-same, getD-set-other}
-use Rattle.model.specs.Lists.{filled, tabulate}
+use Rattle.model.specs.Lists.{filled}
 use Rattle.model.proofs.Lists.{filled-none, filled-more, getD-filled, getD-filled-past, length-filled, tabulate-same}
 
 -- the first i of n words are f's, and the others are the old ones
@@ -19,15 +19,6 @@ pub record Filling (f : ℕ → ℕ) (n i : ℕ) (old new : List ℕ) : Type 0 w
 module _ (f : ℕ → ℕ) (n : ℕ) (old : List ℕ) where
   pub filling-none : n ≤ length old → Filling f n 0 old old
   filling-none h = record { is = sym (filled-none f old); long = refl; room = h }
-
-  -- where the first word is there already
-  pub filling-one : 1 ≤ n → n ≤ length old → getD old 0 0 ≡ f 0 → Filling f n 1 old old
-  unfolding tabulate
-  filling-one one h e = record { is = go old (omega arith) e; long = refl; room = h }
-    where
-      go : (words : List ℕ) → 1 ≤ length words → getD words 0 0 ≡ f 0 → words ≡ filled f 1 words
-      go [] p q = absurd (omega arith)
-      go (w ∷ ws) p q = rw q
 
   pub filling-more : (i : ℕ) (new : List ℕ) (v : ℕ) → Filling f n i old new → i < n → v ≡ f i → Filling f n (i + 1) old (set new i v)
   filling-more i new v filling h e =

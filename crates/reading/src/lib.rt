@@ -14,8 +14,8 @@ use tables::fields::count;
 mod records;
 mod rows;
 
-// Reads a table whose head is right: refusals 5, 6 and 7, or clean, and then the columns hold the table. A deadline may span so many
-// periods. Each column is as long as its caller likes, with a word for each task or row that the head counts.
+// Reads a table whose head is right: refusals 5, 6 and 7, or clean, and then the columns hold the table. A deadline may be as long as
+// `span` periods. Each column is as long as its caller likes, with a word for each task or row that the head counts.
 pub fn read(
     table: &[u8],
     span: u32,

@@ -6,7 +6,7 @@ use mathlib.Core.Bool.{Bool, true, false}
 use mathlib.Core.List.{List, [], _∷_, _++_}
 use mathlib.Core.Logic.{_⊎_, inl, inr}
 use Rattle.model.specs.Search.{firstOf, cleanCount}
-use Rattle.model.proofs.Tests.{bool?, clash}
+use Rattle.model.proofs.Tests.{clash}
 use Rattle.model.proofs.First as first-laws
 use Rattle.tables.specs.declared.Refusal.{Refusal}
 use Rattle.tables.specs.declared.Check.{Check}
@@ -79,13 +79,7 @@ pub stop-refused : (check later : Check) (r : Refusal) → check ≡ Refused r �
 unfolding orElse
 stop-refused check later r p = rw p
 
--- a check that is not clean decides
-pub stops-here : (check later : Check) → isClean check ≡ false → orElse check later ≡ check
-unfolding orElse
-stops-here Clean later wrong = absurd (clash true refl wrong)
-stops-here (Refused r) later wrong = refl
-
--- and behind the last one nothing is
+-- behind the last check there is nothing
 pub last-decides : (check : Check) → orElse check Clean ≡ check
 unfolding orElse
 last-decides Clean = refl
@@ -157,17 +151,6 @@ module _ {F : Type 0} (Right : F → Type 0) (test : F → Bool) (refusal : F �
   broken-refused order field b =
       subst (λ (o : List F). fieldsCheck test refusal o ≡ Refused (refusal field)) (sym (b .stands))
       (behind (b .before) (b .after) field (b .kept) (b .broken))
-
--- fields tested in two steps
-pub fields-split : {F : Type 0} (test : F → Bool) (refusal : F → Refusal) (before after : List F) →
-    fieldsCheck test refusal (before ++ after) ≡ orElse (fieldsCheck test refusal before) (fieldsCheck test refusal after)
-unfolding fieldsCheck firstIn orElse unless
-fields-split test refusal [] after = refl
-fields-split test refusal (field ∷ before) after =
-    elim (bool? (test field)) [
-      | inl p ↦ rw (p, fields-split test refusal before after)
-      | inr p ↦ rw p
-    ]
 
 -- the same by the tests alone: those before the first that fails pass
 module _ {F : Type 0} (test : F → Bool) (refusal : F → Refusal) where

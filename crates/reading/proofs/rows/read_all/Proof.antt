@@ -17,9 +17,6 @@ Inv-loop table n m costs places₀ semaphores₀ longest₀ before₀ at₀ k₀
 abbrev μ-loop : tie.MeasureT-loop
 μ-loop table n m costs places₀ semaphores₀ longest₀ before₀ at₀ k₀ places semaphores longest before at k = m - k
 
-mul-at : tie.Need-mul-at Inv-loop μ-loop
-mul-at c = omega (arith, rows-end _ _ _ (c .before .before .before .before .before .before .pre .0 .0), c .before .before .before .before .before .before .good)
-
 add-at : tie.Need-add-at Inv-loop μ-loop
 add-at c = omega (arith, rows-end _ _ _ (c .before .before .before .before .before .before .pre .0 .0), c .before .before .before .before .before .before .good)
 
@@ -35,26 +32,8 @@ check-requires c κs = (row-near _ _ _ _ _ _ _ (c .before .before .loop .inv .0)
 cast-places : tie.Need-cast-places Inv-loop μ-loop
 cast-places c = omega (arith, c .before .before .before .before .read .ensures .1)
 
-slice-write-places : tie.Need-slice-write-places Inv-loop μ-loop
-slice-write-places c = omega (arith, c .before .before .before .before .before .before .loop .inv .1 placeColumn .long, c .before .before .before .before .before .before .loop .inv .1 placeColumn .room, c .before .before .before .before .before .loop-test .taken)
-
-slice-write-semaphores : tie.Need-slice-write-semaphores Inv-loop μ-loop
-slice-write-semaphores c = omega (arith, c .before .before .before .before .before .before .loop .inv .1 semaphoreColumn .long, c .before .before .before .before .before .before .loop .inv .1 semaphoreColumn .room, c .before .before .before .before .before .loop-test .taken)
-
-slice-write-longest : tie.Need-slice-write-longest Inv-loop μ-loop
-slice-write-longest c = omega (arith, c .before .before .before .before .before .before .loop .inv .1 longestColumn .long, c .before .before .before .before .before .before .loop .inv .1 longestColumn .room, c .before .before .before .before .before .loop-test .taken)
-
 key-requires : tie.Need-key-requires Inv-loop μ-loop
 key-requires c κs = c .before .before .before .before .read .ensures .1
-
-same-length : tie.Need-same-length Inv-loop μ-loop
-same-length c = c .before .before .before .before .before .before .loop .inv .1 placeColumn .long
-
-same-length-2 : tie.Need-same-length-2 Inv-loop μ-loop
-same-length-2 c = c .before .before .before .before .before .before .loop .inv .1 semaphoreColumn .long
-
-same-length-3 : tie.Need-same-length-3 Inv-loop μ-loop
-same-length-3 c = c .before .before .before .before .before .before .loop .inv .1 longestColumn .long
 
 returns : tie.Need-returns Inv-loop μ-loop
 returns c =
@@ -70,15 +49,6 @@ loop-again c = (
   rows-more _ _ _ (c .before .before .before .before .before .before .loop-test .taken) _ _ _ _ (c .before .before .before .before .before .before .before .loop .inv .1) _ (as-row _ _ _ _ _ _ _ (c .before .before .before .before .before .before .before .loop .inv .0) (c .before .before .before .before .before .before .loop-test .taken) _ (c .before .before .before .before .before .read .ensures .0) (c .before .before .before .before .before .read .ensures .1 .1)),
 )
 
-same-length-4 : tie.Need-same-length-4 Inv-loop μ-loop
-same-length-4 c = c .before .loop .inv .1 placeColumn .long
-
-same-length-5 : tie.Need-same-length-5 Inv-loop μ-loop
-same-length-5 c = c .before .loop .inv .1 semaphoreColumn .long
-
-same-length-6 : tie.Need-same-length-6 Inv-loop μ-loop
-same-length-6 c = c .before .loop .inv .1 longestColumn .long
-
 returns-2 : tie.Need-returns-2 Inv-loop μ-loop
 returns-2 c =
     let w = scanning-all _ _ _ _ (c .before .loop .inv .0) (c .loop-test .left) in
@@ -90,28 +60,28 @@ read-all-spec =
     (tie.spec
     Inv-loop
     μ-loop
-    mul-at
+    (λ c. omega (arith, rows-end _ _ _ (c .before .before .before .before .before .before .pre .0 .0), c .before .before .before .before .before .before .good))
     add-at
     loop-holds
     read-requires
     check-requires
     (λ c. search needs)
     cast-places
-    slice-write-places
-    slice-write-semaphores
+    (λ c. omega (arith, c .before .before .before .before .before .before .loop .inv .1 placeColumn .long, c .before .before .before .before .before .before .loop .inv .1 placeColumn .room, c .before .before .before .before .before .loop-test .taken))
+    (λ c. omega (arith, c .before .before .before .before .before .before .loop .inv .1 semaphoreColumn .long, c .before .before .before .before .before .before .loop .inv .1 semaphoreColumn .room, c .before .before .before .before .before .loop-test .taken))
     (λ c. omega arith)
-    slice-write-longest
+    (λ c. omega (arith, c .before .before .before .before .before .before .loop .inv .1 longestColumn .long, c .before .before .before .before .before .before .loop .inv .1 longestColumn .room, c .before .before .before .before .before .loop-test .taken))
     key-requires
     (λ c. search needs)
-    same-length
-    same-length-2
-    same-length-3
+    (λ c. c .before .before .before .before .before .before .loop .inv .1 placeColumn .long)
+    (λ c. c .before .before .before .before .before .before .loop .inv .1 semaphoreColumn .long)
+    (λ c. c .before .before .before .before .before .before .loop .inv .1 longestColumn .long)
     returns
     add-at-2
     (λ c. omega arith)
     (λ c. omega arith)
     loop-again
-    same-length-4
-    same-length-5
-    same-length-6
+    (λ c. c .before .loop .inv .1 placeColumn .long)
+    (λ c. c .before .loop .inv .1 semaphoreColumn .long)
+    (λ c. c .before .loop .inv .1 longestColumn .long)
     returns-2)
