@@ -30,6 +30,10 @@ use Rattle.tables.proofs.FieldLaws.{clean-only, stops-at, goes-on, goes-through
 use Rattle.tables.proofs.MeaningLaws.{between-means, between-holds}
 use Rattle.reading.proofs.ColumnLaws.{sound, few-tasks, rows-end}
 
+-- a test of numbers that were read is the test of the numbers
+pub between-same : {a b x y : ℕ} → a ≡ b → x ≡ y → between 1 a x ≡ between 1 b y
+between-same p q = rw (p, q)
+
 -- the delays, tested by one test: an earliest that is at most a right latest is right
 pub earliest-right : (earliest latest : ℕ) → between earliest 1000000 latest ≡ true → between 0 1000000 earliest ≡ true
 earliest-right earliest latest p =

@@ -29,7 +29,7 @@ use tables::layout::DelayFields;
 use tables::layout::Layout;
 
 // The first record may have any priority that a byte holds.
-const HIGHEST_PRIORITY: u32 = 255;
+const HIGHEST_PRIORITY: u8 = 255;
 
 // One record's numbers.
 pub struct TaskRecord {
@@ -106,9 +106,9 @@ fn delay_at(fields: DelayFields, earliest: Ticks) -> usize
 
 // Tests the record that begins at `at`: T, C, D, the delays, and then the priority, which stands first and is tested last (document
 // 02, L3). The first that is wrong is refused at its own first byte. An earliest that is at most a right latest is right.
-pub fn check(task: TaskRecord, layout: Layout, span: u32, at: usize, highest: u32) -> Check
+pub fn check(task: TaskRecord, layout: Layout, span: u32, at: usize, highest: Priority) -> Check
     requires { ⌜ (span ≤ 4) × (at < 65536) ⌝ }
-    ensures { λ r. ⌜ r ≡ recordFault span (taskFrom task) layout at highest ⌝ }
+    ensures { λ r. ⌜ r ≡ recordFault span (taskFrom task) layout at (highest .0) ⌝ }
 {
     if !within(1, MOST_TICKS, task.period.0) {
         return Check::Refused(Refusal::NumberOutOfRange(Offset(at + PERIOD_AT)));
@@ -124,7 +124,7 @@ pub fn check(task: TaskRecord, layout: Layout, span: u32, at: usize, highest: u3
         let delay = delay_at(fields, task.earliest);
         return Check::Refused(Refusal::NumberOutOfRange(Offset(at + delay)));
     }
-    if !within(1, highest, wide(task.priority.0)) {
+    if !within(1, wide(highest.0), wide(task.priority.0)) {
         return Check::Refused(Refusal::PriorityOutOfOrder(Offset(at + PRIORITY_AT)));
     }
     Check::Clean
@@ -148,7 +148,7 @@ pub fn read_all(
     ensures { λ r. ⌜ r ≡ recordsCheck span (now (table .entry)) ⌝ }
     ensures { λ r. ⌜ Filled (recordIn (now (table .entry))) (recordsRead span (now (table .entry))) (recordColumns (now (priorities .entry)) (now (periods .entry)) (now (costs .entry)) (now (deadlines .entry)) (now (spreads .entry)) (now (latest .entry))) (recordColumns (now (priorities .exit)) (now (periods .exit)) (now (costs .exit)) (now (deadlines .exit)) (now (spreads .exit)) (now (latest .exit))) ⌝ }
 {
-    let mut highest = HIGHEST_PRIORITY;
+    let mut highest = Priority(HIGHEST_PRIORITY);
     let mut at = HEAD_SIZE;
     for i in 0..n {
         let task = read(table, layout, at);
@@ -163,7 +163,7 @@ pub fn read_all(
         spreads[i] = task.latest.0 - task.earliest.0;
         latest[i] = task.latest.0;
         // priorities strictly fall
-        highest = wide(task.priority.0) - 1;
+        highest = Priority(task.priority.0 - 1);
         at += layout.size;
     }
     Check::Clean

@@ -1,5 +1,6 @@
 -- `reading::records::check` meets its contract: at each return the tests that led there say which field is the first that is wrong.
 -- Assumes nothing.
+use native.Mathlib.Omega.{arith}
 use mathlib.Core.Path.{sym, _∙_, ap}
 use mathlib.Core.List.{[], _∷_}
 use Prim.Native.Nat.{ℕ}
@@ -8,7 +9,7 @@ use Rattle.tables.specs.Fields.{periodField, costField, deadlineField, earliest
 use Rattle.tables.specs.Rules.{between, recordTest}
 use Rattle.tables.proofs.FieldLaws.{tests-fail, tests-pass}
 use Rattle.tables.proofs.MeaningLaws.{between-means}
-use Rattle.reading.proofs.RecordLaws.{earliest-right, delay-refused}
+use Rattle.reading.proofs.RecordLaws.{between-same, earliest-right, delay-refused}
 use borrow.Author.Needs.{needs}
 use Rattle.reading.proofs.records.check.Statement.{statement}
 use Rattle.reading.proofs.records.check.Tie as tie
@@ -42,15 +43,15 @@ unfolding recordTest
 returns-5 c =
     sym
     (tests-fail _ _ (periodField ∷ costField ∷ deadlineField ∷ earliestField ∷ latestField ∷ []) _ priorityField
-    (confirmed (c .before .before .before .before .before .before .before .before .before .before .before .within .ensures) (c .before .before .before .before .before .before .before .before .before .before .if1 .left), (confirmed (c .before .before .before .before .before .before .before .before .before .within2 .ensures) (c .before .before .before .before .before .before .before .before .if2 .left), (ap (λ (k : ℕ). between 1 k (c .before .before .before .before .before .before .before .before .before .before .before .before .args .task .deadline .0)) (sym (c .before .before .before .before .before .before .before .longest-deadline .ensures)) ∙ confirmed (c .before .before .before .before .before .before .within3 .ensures) (c .before .before .before .before .before .if3 .left), (earliest-right (c .before .before .before .before .before .before .before .before .before .before .before .before .args .task .earliest .0) (c .before .before .before .before .before .before .before .before .before .before .before .before .args .task .latest .0) (confirmed (c .before .before .before .before .within4 .ensures) (c .before .before .before .if4 .left)), (confirmed (c .before .before .before .before .within4 .ensures) (c .before .before .before .if4 .left), tt)))))
-    (ap (between 1 (c .before .before .before .before .before .before .before .before .before .before .before .before .args .highest)) (sym (c .before .before .wide .ensures .0)) ∙ refuted (c .before .within5 .ensures) (c .if5 .taken)))
+    (confirmed (c .before .before .before .before .before .before .before .before .before .before .before .before .within .ensures) (c .before .before .before .before .before .before .before .before .before .before .before .if1 .left), (confirmed (c .before .before .before .before .before .before .before .before .before .before .within2 .ensures) (c .before .before .before .before .before .before .before .before .before .if2 .left), (ap (λ (k : ℕ). between 1 k (c .before .before .before .before .before .before .before .before .before .before .before .before .before .args .task .deadline .0)) (sym (c .before .before .before .before .before .before .before .before .longest-deadline .ensures)) ∙ confirmed (c .before .before .before .before .before .before .before .within3 .ensures) (c .before .before .before .before .before .before .if3 .left), (earliest-right (c .before .before .before .before .before .before .before .before .before .before .before .before .before .args .task .earliest .0) (c .before .before .before .before .before .before .before .before .before .before .before .before .before .args .task .latest .0) (confirmed (c .before .before .before .before .before .within4 .ensures) (c .before .before .before .before .if4 .left)), (confirmed (c .before .before .before .before .before .within4 .ensures) (c .before .before .before .before .if4 .left), tt)))))
+    (between-same (sym (c .before .before .before .wide .ensures .0)) (sym (c .before .before .wide2 .ensures .0)) ∙ refuted (c .before .within5 .ensures) (c .if5 .taken)))
 
 returns-6 : tie.Need-returns-6
 unfolding recordTest
 returns-6 c =
     sym
     (tests-pass _ _ recordOrder
-    (confirmed (c .before .before .before .before .before .before .before .before .before .before .before .within .ensures) (c .before .before .before .before .before .before .before .before .before .before .if1 .left), (confirmed (c .before .before .before .before .before .before .before .before .before .within2 .ensures) (c .before .before .before .before .before .before .before .before .if2 .left), (ap (λ (k : ℕ). between 1 k (c .before .before .before .before .before .before .before .before .before .before .before .before .args .task .deadline .0)) (sym (c .before .before .before .before .before .before .before .longest-deadline .ensures)) ∙ confirmed (c .before .before .before .before .before .before .within3 .ensures) (c .before .before .before .before .before .if3 .left), (earliest-right (c .before .before .before .before .before .before .before .before .before .before .before .before .args .task .earliest .0) (c .before .before .before .before .before .before .before .before .before .before .before .before .args .task .latest .0) (confirmed (c .before .before .before .before .within4 .ensures) (c .before .before .before .if4 .left)), (confirmed (c .before .before .before .before .within4 .ensures) (c .before .before .before .if4 .left), (ap (between 1 (c .before .before .before .before .before .before .before .before .before .before .before .before .args .highest)) (sym (c .before .before .wide .ensures .0)) ∙ confirmed (c .before .within5 .ensures) (c .if5 .left), tt)))))))
+    (confirmed (c .before .before .before .before .before .before .before .before .before .before .before .before .within .ensures) (c .before .before .before .before .before .before .before .before .before .before .before .if1 .left), (confirmed (c .before .before .before .before .before .before .before .before .before .before .within2 .ensures) (c .before .before .before .before .before .before .before .before .before .if2 .left), (ap (λ (k : ℕ). between 1 k (c .before .before .before .before .before .before .before .before .before .before .before .before .before .args .task .deadline .0)) (sym (c .before .before .before .before .before .before .before .before .longest-deadline .ensures)) ∙ confirmed (c .before .before .before .before .before .before .before .within3 .ensures) (c .before .before .before .before .before .before .if3 .left), (earliest-right (c .before .before .before .before .before .before .before .before .before .before .before .before .before .args .task .earliest .0) (c .before .before .before .before .before .before .before .before .before .before .before .before .before .args .task .latest .0) (confirmed (c .before .before .before .before .before .within4 .ensures) (c .before .before .before .before .if4 .left)), (confirmed (c .before .before .before .before .before .within4 .ensures) (c .before .before .before .before .if4 .left), (between-same (sym (c .before .before .before .wide .ensures .0)) (sym (c .before .before .wide2 .ensures .0)) ∙ confirmed (c .before .within5 .ensures) (c .if5 .left), tt)))))))
 
 pub check-spec : {M : Type 1} → statement M
 check-spec =
@@ -70,6 +71,7 @@ check-spec =
     (λ c κs. search needs)
     (λ c. search needs)
     returns-4
+    (λ c κs. search needs)
     (λ c κs. search needs)
     (λ c κs. search needs)
     (λ c. search needs)

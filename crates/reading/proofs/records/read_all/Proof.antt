@@ -1,8 +1,8 @@
 -- `reading::records::read_all` meets its contract: each turn takes one record, by the laws of `RecordLaws`, and fills one word of each column.
 -- Assumes nothing.
-use Prim.Native.Nat.{ℕ, _-_}
+use Prim.Native.Nat.{_-_}
 use native.Mathlib.Omega.{arith}
-use mathlib.Core.Path.{ap}
+use mathlib.Core.Path.{refl}
 use Rattle.model.proofs.Tests.{refuted, confirmed}
 use Rattle.reading.specs.Columns.{priorityColumn, periodColumn, costColumn, deadlineColumn, spreadColumn, latestColumn, recordColumns, recordIn}
 use Rattle.reading.proofs.ColumnLaws.{AllFilling, sound, all-none, records-more, all-at}
@@ -12,7 +12,7 @@ use Rattle.reading.proofs.records.read_all.Tie as tie
 
 abbrev Inv-loop : tie.InvT-loop
 Inv-loop table layout span n priorities₀ periods₀ costs₀ deadlines₀ spreads₀ latest₀ highest₀ at₀ i₀ priorities periods costs deadlines spreads latest highest at i =
-    Reading span table layout n i at highest
+    Reading span table layout n i at (highest .0)
     × AllFilling (recordIn table) n i (recordColumns priorities₀ periods₀ costs₀ deadlines₀ spreads₀ latest₀) (recordColumns priorities periods costs deadlines spreads latest)
 
 abbrev μ-loop : tie.MeasureT-loop
@@ -35,15 +35,15 @@ returns c =
 sub-spreads : tie.Need-sub-spreads Inv-loop μ-loop
 sub-spreads c = omega (arith, clean-subtracts _ _ _ _ _ _ (c .before .before .before .check .ensures) (confirmed (c .before .before .is-clean .ensures) (c .before .if1 .left)) .delays)
 
-sub-highest : tie.Need-sub-highest Inv-loop μ-loop
-sub-highest c = omega (arith, c .wide .ensures .0, clean-subtracts _ _ _ _ _ _ (c .before .before .before .before .check .ensures) (confirmed (c .before .before .before .is-clean .ensures) (c .before .before .if1 .left)) .priority)
+sub-t26 : tie.Need-sub-t26 Inv-loop μ-loop
+sub-t26 c = omega (arith, clean-subtracts _ _ _ _ _ _ (c .before .before .before .before .check .ensures) (confirmed (c .before .before .before .is-clean .ensures) (c .before .before .if1 .left)) .priority)
 
 add-at : tie.Need-add-at Inv-loop μ-loop
 add-at c = omega (arith, record-there _ _ _ _ _ _ _ (c .before .before .before .before .before .before .before .before .loop .inv .0) (c .before .before .before .before .before .before .before .loop-test .taken), c .before .before .before .before .before .before .before .before .before .before .before .before .before .before .before .before .good)
 
 loop-again : tie.Need-loop-again Inv-loop μ-loop
 loop-again c = (
-  reading-more _ _ _ _ _ _ _ (c .before .before .before .before .before .before .before .before .loop .inv .0) (c .before .before .before .before .before .before .before .loop-test .taken) _ (c .before .before .before .before .before .before .read .ensures .0) (c .before .before .before .before .before .before .read .ensures .1) _ (c .before .before .before .before .before .check .ensures) (confirmed (c .before .before .before .before .is-clean .ensures) (c .before .before .before .if1 .left)) _ (ap (λ (p : ℕ). p - 1) (c .before .wide .ensures .0)),
+  reading-more _ _ _ _ _ _ _ (c .before .before .before .before .before .before .before .before .loop .inv .0) (c .before .before .before .before .before .before .before .loop-test .taken) _ (c .before .before .before .before .before .before .read .ensures .0) (c .before .before .before .before .before .before .read .ensures .1) _ (c .before .before .before .before .before .check .ensures) (confirmed (c .before .before .before .before .is-clean .ensures) (c .before .before .before .if1 .left)) _ refl,
   records-more _ _ _ (c .before .before .before .before .before .before .before .loop-test .taken) _ _ _ _ _ _ _ (c .before .before .before .before .before .before .before .before .loop .inv .1) _ (task-is _ _ _ _ _ _ _ (c .before .before .before .before .before .before .before .before .loop .inv .0) (c .before .before .before .before .before .before .before .loop-test .taken) _ (c .before .before .before .before .before .before .read .ensures .0) (c .before .before .before .before .before .before .read .ensures .1)),
 )
 
@@ -81,8 +81,7 @@ read-all-spec =
     (λ c. omega (arith, c .before .before .before .before .before .before .loop .inv .1 spreadColumn .long, c .before .before .before .before .before .before .loop .inv .1 spreadColumn .room, c .before .before .before .before .before .loop-test .taken))
     (λ c. omega arith)
     (λ c. omega (arith, c .before .before .before .before .before .before .loop .inv .1 latestColumn .long, c .before .before .before .before .before .before .loop .inv .1 latestColumn .room, c .before .before .before .before .before .loop-test .taken))
-    (λ c κs. omega arith)
-    sub-highest
+    sub-t26
     add-at
     (λ c. omega arith)
     (λ c. omega arith)
