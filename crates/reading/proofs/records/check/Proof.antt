@@ -1,6 +1,5 @@
 -- `reading::records::check` meets its contract: at each return the tests that led there say which field is the first that is wrong.
 -- Assumes nothing.
-use native.Mathlib.Omega.{arith}
 use mathlib.Core.Path.{sym, _∙_, ap}
 use mathlib.Core.List.{[], _∷_}
 use Prim.Native.Nat.{ℕ}
