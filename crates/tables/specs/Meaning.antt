@@ -46,8 +46,8 @@ pub record RowsRise (before row : Row) : Type 0 where
   pub byPlace : before .place ≤ row .place
   pub thenSemaphore : before .place ≡ row .place → before .semaphore < row .semaphore
 
--- 5: "T and C are 1 to 1,000,000. D is 1 to T. J is 0 to 1,000,000."; "earliest at most latest, both at most 1,000,000"; and 6. A
--- deadline may span so many periods.
+-- 5: "T and C are 1 to 1,000,000. D is 1 to T. J is 0 to 1,000,000."; "earliest at most latest, both at most 1,000,000"; and 6.
+-- `span` is how many periods a deadline may span: 1 in document 01, where `OnePeriod`, below, says that this is T.
 abbrev pub RecordFieldRight : ℕ → List ℕ → ℕ → RecordField → Type 0
 RecordFieldRight span bytes i periodField = Within 1 1000000 (periodIn bytes i)
 RecordFieldRight span bytes i costField = Within 1 1000000 (costIn bytes i)
