@@ -16,16 +16,15 @@ use Rattle.model.proofs.Tests.{both-fail, both-pass}
 use Rattle.model.proofs.First.{first-none, first-on, first-stop, first-same}
 use Rattle.tables.specs.declared.Refusal.{Refusal}
 use Rattle.tables.specs.declared.Refusal.the-variants.{NoRoom, NotPlayable}
-use Rattle.tables.specs.declared.Check.{Check}
 use Rattle.tables.specs.declared.Check.the-variants as check
 use Rattle.tables.specs.Fields.{taskCountField, periodField, costField, deadlineField}
 use Rattle.tables.specs.Layout.{taskCount, rowCount, tasksOf, latestIn}
 use Rattle.tables.specs.Refusals.{at, firstIn, orElse, unless}
-use Rattle.tables.specs.Checks.{headCheck, bodyCheck, tableCheck}
+use Rattle.tables.specs.Checks.{readCheck, tableCheck}
 use Rattle.tables.specs.Meaning.{TableRight}
 use Rattle.tables.proofs.LayoutLaws.{layout-sound}
 use Rattle.tables.proofs.CheckLaws.{read-right}
-use Rattle.tables.proofs.OrderLaws.{head-decides, body-decides, room-decides, all-pass}
+use Rattle.tables.proofs.OrderLaws.{read-clean, read-decides, room-decides, all-pass}
 use Rattle.machine.specs.Machine.{played}
 use Rattle.machine.specs.Slices.{TasksHeld, DeadlinesHeld}
 use Rattle.machine.proofs.SameLaws.{played-same}
@@ -60,22 +59,15 @@ module _ (bytes answers : List ℕ) where
   unfolding playVerdict playWords
   refused r e = record { verdictIs = rw e; answersAre = rw e }
 
-  pub head-refused : (r : Refusal) → check.Refused r ≡ headCheck bytes → Played bytes answers (verdict.Refused r) answers
-  head-refused r e = refused r (table-decides bytes (length answers) r (head-decides 1 bytes (length answers) (length answers) r e))
-
-  pub body-refused : (r : Refusal) (head : Check) → head ≡ headCheck bytes → head ≡ check.Clean → check.Refused r ≡ bodyCheck 1 bytes →
-      Played bytes answers (verdict.Refused r) answers
-  body-refused r head is clean e =
-      refused r
-      (table-decides bytes (length answers) r (body-decides 1 bytes (length answers) (length answers) (sym is ∙ clean) r e))
+  pub read-refused : (r : Refusal) → check.Refused r ≡ readCheck 1 bytes → Played bytes answers (verdict.Refused r) answers
+  read-refused r e = refused r (table-decides bytes (length answers) r (read-decides 1 bytes (length answers) (length answers) r e))
 
 -- four of the columns that hold a table
 pub numbers-held : (bytes : List ℕ) (records : RecordColumn → List ℕ) (rows : RowColumn → List ℕ) → TableHeld 1 bytes records rows →
     NumbersHeld bytes (records periodColumn) (records costColumn) (records deadlineColumn) (records latestColumn)
 numbers-held bytes records rows held =
     record {
-      head = held .head;
-      body = held .body;
+      clean = held .clean;
       periodsHeld = held .ofRecords periodColumn;
       costsHeld = held .ofRecords costColumn;
       deadlinesHeld = held .ofRecords deadlineColumn;
@@ -84,14 +76,13 @@ numbers-held bytes records rows held =
 
 module _ (bytes periods costs deadlines latest : List ℕ) (held : NumbersHeld bytes periods costs deadlines latest) where
   pub right : TableRight bytes
-  right = read-right 1 bytes (held .head) (held .body)
+  right =
+      let r = read-clean 1 bytes (held .clean) in
+      read-right 1 bytes (r .0) (r .1)
 
   module _ (n : ℕ) (counted : n ≡ taskCount bytes) where
     inside : {p : ℕ} → p < n → p < taskCount bytes
     inside h = omega (arith, counted)
-
-    pub latest-long : n ≤ length latest
-    latest-long = omega (arith, held .latestHeld .long, counted)
 
     -- the engine's limits are document 01's
     pub tasks-held : TasksHeld periods costs n
@@ -137,11 +128,11 @@ module _ (bytes periods costs deadlines latest : List ℕ) (held : NumbersHeld b
       no-room h =
           refused bytes answers NoRoom
           (table-decides bytes (length answers) NoRoom
-          (room-decides 1 bytes (length answers) (length answers) (held .head) (held .body) n counted (rw (lt-leb n (length answers) h))))
+          (room-decides 1 bytes (length answers) (length answers) (held .clean) n counted (rw (lt-leb n (length answers) h))))
 
       module _ (room : n ≤ length answers) where
         clean : tableCheck bytes (length answers) (length answers) ≡ check.Clean
-        clean = all-pass 1 bytes (length answers) (length answers) (held .head) (held .body) n counted room room
+        clean = all-pass 1 bytes (length answers) (length answers) (held .clean) n counted room room
 
         -- rows cannot be played, nor can delays
         pub rows-refused : ¬ (rowCount bytes ≡ 0) → Played bytes answers (verdict.Refused NotPlayable) answers

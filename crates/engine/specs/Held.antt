@@ -5,13 +5,12 @@ use mathlib.Core.Path.{_≡_}
 use mathlib.Core.List.{List}
 use Rattle.tables.specs.declared.Check.the-variants.{Clean}
 use Rattle.tables.specs.Layout.{taskCount, periodIn, costIn, deadlineIn, latestIn}
-use Rattle.tables.specs.Checks.{headCheck, bodyCheck}
+use Rattle.tables.specs.Checks.{readCheck}
 use Rattle.reading.specs.Columns.{Holds}
 
 -- nothing of the table is refused, and four columns hold the numbers that are played
 pub record NumbersHeld (bytes periods costs deadlines latest : List ℕ) : Type 0 where
-  pub head : headCheck bytes ≡ Clean
-  pub body : bodyCheck 1 bytes ≡ Clean
+  pub clean : readCheck 1 bytes ≡ Clean
   pub periodsHeld : Holds periods (taskCount bytes) (periodIn bytes)
   pub costsHeld : Holds costs (taskCount bytes) (costIn bytes)
   pub deadlinesHeld : Holds deadlines (taskCount bytes) (deadlineIn bytes)

@@ -3,6 +3,7 @@ ghost use mathlib.Core.Path.{_≡_};
 ghost use Prim.Native.Nat.{_≤_};
 ghost use lib.ListN.{length};
 ghost use Rattle.model.specs.Lists.{wordOf};
+ghost use Rattle.reading.specs.Columns.{part};
 ghost use Rattle.answering.specs.Results.{resultOf};
 ghost use Rattle.engine.specs.Held.{NumbersHeld};
 ghost use Rattle.engine.specs.Outcome.{Played};
@@ -21,49 +22,19 @@ use tables::fields::count;
 pub fn play(table: &[u8], answers: &mut [u32]) -> Verdict
     ensures { λ r. ⌜ Played (now (table .entry)) (now (answers .entry)) r (now (answers .exit)) ⌝ }
 {
-    let head = tables::head::check(table);
-    if let Check::Refused(refusal) = head {
+    // columns for 32 tasks and 64 rows, the most that any version has
+    let mut bytes = [0u8; 160];
+    let mut words = [0u32; 224];
+    let found = reading::read(table, ONE_PERIOD, 32, &mut bytes, &mut words);
+    if let Check::Refused(refusal) = found {
         return Verdict::Refused(refusal);
     }
-    // room for the columns: no version has more than 32 tasks or 64 rows
-    let mut priorities = [0u8; 32];
-    let mut periods = [0u32; 32];
-    let mut costs = [0u32; 32];
-    let mut deadlines = [0u32; 32];
-    let mut spreads = [0u32; 32];
-    let mut latest = [0u32; 32];
-    let mut places = [0u8; 64];
-    let mut semaphores = [0u8; 64];
-    let mut longest = [0u32; 64];
-    let body = reading::read(
-        table,
-        ONE_PERIOD,
-        &mut priorities,
-        &mut periods,
-        &mut costs,
-        &mut deadlines,
-        &mut spreads,
-        &mut latest,
-        &mut places,
-        &mut semaphores,
-        &mut longest,
-    );
-    if let Check::Refused(refusal) = body {
-        return Verdict::Refused(refusal);
-    }
-    play_columns(table, &periods, &costs, &deadlines, &latest, answers)
+    play_columns(table, &words, answers)
 }
 
 // Plays a table that the columns hold, where the slice has room and there is no row and no delay. No earliest delay is above its latest.
-fn play_columns(
-    table: &[u8],
-    periods: &[u32],
-    costs: &[u32],
-    deadlines: &[u32],
-    latest: &[u32],
-    answers: &mut [u32],
-) -> Verdict
-    requires { ⌜ NumbersHeld (now table) (now periods) (now costs) (now deadlines) (now latest) ⌝ }
+fn play_columns(table: &[u8], words: &[u32], answers: &mut [u32]) -> Verdict
+    requires { ⌜ (length (now words) ≡ 224) × NumbersHeld (now table) (part 0 32 (now words)) (part 32 32 (now words)) (part 64 32 (now words)) (part 128 32 (now words)) ⌝ }
     ensures { λ r. ⌜ Played (now (table .entry)) (now (answers .entry)) r (now (answers .exit)) ⌝ }
 {
     let n = count(table[TASK_COUNT_AT]);
@@ -73,11 +44,11 @@ fn play_columns(
     if table[ROW_COUNT_AT] != 0 {
         return Verdict::Refused(Refusal::NotPlayable);
     }
-    let delay = largest(latest, n);
+    let delay = largest(&words[128..160], n);
     if delay.0 != 0 {
         return Verdict::Refused(Refusal::NotPlayable);
     }
-    play_all(periods, costs, deadlines, n, answers);
+    play_all(&words[0..32], &words[32..64], &words[64..96], n, answers);
     result(answers, n)
 }
 

@@ -18,7 +18,7 @@ use Rattle.model.proofs.Tests.{ltb?}
 use Rattle.model.proofs.First as first-laws
 use Rattle.tables.specs.declared.layout.Layout.{Layout}
 use Rattle.tables.specs.declared.Check.{Check}
-use Rattle.tables.specs.declared.Check.the-variants.{Clean, Refused}
+use Rattle.tables.specs.declared.Check.the-variants.{Clean}
 use Rattle.tables.specs.declared.Refusal.{Refusal}
 use Rattle.tables.specs.Layout.{layoutOf, taskCount, rowCount, recordStart, rowStart, rowFrom, rowAt, costIn, placeIn, semaphoreIn}
 use Rattle.tables.specs.Refusals.{isClean, unless, orElse, firstIn, fieldsCheck}
@@ -87,6 +87,14 @@ row-same n start {cost} {cost′} {inOrder} {inOrder′} row costs orders =
     (then-same (between 1 16 (row .semaphore)) _
     (λ right. rw (orders (between-means 1 16 (row .semaphore) right .low)))))
 
+-- the costs at hand, in whatever slice they are lent
+pub costs-long : {n : ℕ} {f : ℕ → ℕ} {costs held : List ℕ} → costs ≡ held → Holds held n f → n ≤ length costs
+costs-long {n} e h = subst (λ (words : List ℕ). n ≤ length words) (sym e) (h .long)
+
+pub fault-of : (row : Row) (start n before : ℕ) (costs held : List ℕ) {checked : Check} → checked ≡ rowFault row start n costs before → costs ≡ held →
+    checked ≡ rowFault row start n held before
+fault-of row start n before costs held found e = found ∙ ap (λ (words : List ℕ). rowFault row start n words before) e
+
 module _ (bytes : List ℕ) (n m : ℕ) (costs : List ℕ) where
   pub scanning-none : (layout : Layout) → HeadRead bytes layout n → m ≡ rowCount bytes → Holds costs n (costIn bytes) →
       Scanning bytes n m costs 0 (5 + layout .size * n) 0
@@ -150,10 +158,10 @@ module _ (bytes : List ℕ) (n m : ℕ) (costs : List ℕ) where
         (s .head .counted)
 
     module _ (checked : Check) (found : checked ≡ rowFault row start n costs before) where
-      pub row-wrong : (refusal : Refusal) → checked ≡ Refused refusal → (Refused refusal ≡ rowsCheck bytes) × (rowsRead bytes ≡ k)
+      pub row-wrong : isClean checked ≡ false → (checked ≡ rowsCheck bytes) × (rowsRead bytes ≡ k)
       unfolding rowsCheck
-      row-wrong refusal e =
-          stops-at (rowCheck bytes) k (s .clean) (rowCount bytes) (omega (arith, s .counted)) (Refused refusal) (sym fault-same ∙ sym found ∙ e) refl
+      row-wrong wrong =
+          stops-at (rowCheck bytes) k (s .clean) (rowCount bytes) (omega (arith, s .counted)) checked (sym fault-same ∙ sym found) wrong
 
       pub scanning-more : checked ≡ Clean → (next : ℕ) → next ≡ rowKey row → Scanning bytes n m costs (k + 1) (start + 6) next
       unfolding keyBefore

@@ -1,15 +1,16 @@
 -- The columns that a table is read into, and what they hold after that.
 -- Assumes nothing.
-use Prim.Native.Nat.{ℕ, _≤_, _<_}
+use Prim.Native.Nat.{ℕ, _+_, _*_, _≤_, _<_}
 use mathlib.Core.Path.{_≡_}
 use mathlib.Core.List.{List}
-use lib.ListN.{length, getD}
+use lib.ListN.{length, getD, take, drop}
 use Rattle.model.specs.Choice.{on}
 use Rattle.model.specs.Lists.{filled}
+use Rattle.model.specs.Tables.{Task, Row, spreadOf}
 use Rattle.tables.specs.declared.Check.the-variants.{Clean}
-use Rattle.tables.specs.Layout.{taskCount, rowCount, priorityIn, periodIn, costIn, deadlineIn, spreadIn, latestIn, placeIn, semaphoreIn, longestIn}
+use Rattle.tables.specs.Layout.{taskCount, rowCount, taskAt, rowAt}
 use Rattle.tables.specs.Refusals.{isClean}
-use Rattle.tables.specs.Checks.{headCheck, recordsCheck, bodyCheck, rowsRead}
+use Rattle.tables.specs.Checks.{headCheck, recordsCheck, readCheck, recordsRead, rowsRead}
 
 -- a word of each of six columns for each task, and of each of three for each section row
 pub data RecordColumn : Type 0 where
@@ -25,45 +26,61 @@ pub data RowColumn : Type 0 where
   semaphoreColumn : RowColumn
   longestColumn : RowColumn
 
--- the columns as they are lent, a list of words for each
-abbrev pub recordColumns : (priorities periods costs deadlines spreads latest : List ℕ) → RecordColumn → List ℕ
-recordColumns priorities periods costs deadlines spreads latest priorityColumn = priorities
-recordColumns priorities periods costs deadlines spreads latest periodColumn = periods
-recordColumns priorities periods costs deadlines spreads latest costColumn = costs
-recordColumns priorities periods costs deadlines spreads latest deadlineColumn = deadlines
-recordColumns priorities periods costs deadlines spreads latest spreadColumn = spreads
-recordColumns priorities periods costs deadlines spreads latest latestColumn = latest
+-- The columns stand one behind another in two lent slices: in the bytes the priorities of `room` tasks and the places and semaphores of
+-- 64 rows, which are the most in every version; in the words the other five numbers of `room` tasks and the longest sections.
+abbrev pub part : ℕ → ℕ → List ℕ → List ℕ
+part start long words = take long (drop start words)
 
-abbrev pub rowColumns : (places semaphores longest : List ℕ) → RowColumn → List ℕ
-rowColumns places semaphores longest placeColumn = places
-rowColumns places semaphores longest semaphoreColumn = semaphores
-rowColumns places semaphores longest longestColumn = longest
+abbrev pub recordColumns : (room : ℕ) (bytes words : List ℕ) → RecordColumn → List ℕ
+recordColumns room bytes words priorityColumn = part 0 room bytes
+recordColumns room bytes words periodColumn = part (0 * room) room words
+recordColumns room bytes words costColumn = part (1 * room) room words
+recordColumns room bytes words deadlineColumn = part (2 * room) room words
+recordColumns room bytes words spreadColumn = part (3 * room) room words
+recordColumns room bytes words latestColumn = part (4 * room) room words
 
--- what a column has for the task at a place, and for a row
+abbrev pub rowColumns : (room : ℕ) (bytes words : List ℕ) → RowColumn → List ℕ
+rowColumns room bytes words placeColumn = part room 64 bytes
+rowColumns room bytes words semaphoreColumn = part (room + 64) 64 bytes
+rowColumns room bytes words longestColumn = part (5 * room) 64 words
+
+-- the slices are as long as their columns, which have room for each task of a table with a right head
+pub record Lent (table : List ℕ) (room : ℕ) (bytes words : List ℕ) : Type 0 where
+  pub tasksFit : headCheck table ≡ Clean → taskCount table ≤ room
+  pub bytesLong : length bytes ≡ room + 128
+  pub wordsLong : length words ≡ 5 * room + 64
+
+-- the number of a task, or of a row, that its column has
+abbrev pub recordNumber : RecordColumn → Task → ℕ
+recordNumber priorityColumn t = t .priority
+recordNumber periodColumn t = t .period
+recordNumber costColumn t = t .cost
+recordNumber deadlineColumn t = t .deadline
+recordNumber spreadColumn t = spreadOf t
+recordNumber latestColumn t = t .latest
+
+abbrev pub rowNumber : RowColumn → Row → ℕ
+rowNumber placeColumn r = r .place
+rowNumber semaphoreColumn r = r .semaphore
+rowNumber longestColumn r = r .longest
+
+-- and so in the table, record by record and row by row
 abbrev pub recordIn : List ℕ → RecordColumn → ℕ → ℕ
-recordIn bytes priorityColumn = priorityIn bytes
-recordIn bytes periodColumn = periodIn bytes
-recordIn bytes costColumn = costIn bytes
-recordIn bytes deadlineColumn = deadlineIn bytes
-recordIn bytes spreadColumn = spreadIn bytes
-recordIn bytes latestColumn = latestIn bytes
+recordIn bytes c i = recordNumber c (taskAt bytes i)
 
 abbrev pub rowIn : List ℕ → RowColumn → ℕ → ℕ
-rowIn bytes placeColumn = placeIn bytes
-rowIn bytes semaphoreColumn = semaphoreIn bytes
-rowIn bytes longestColumn = longestIn bytes
-
--- each column has n words at least
-pub record Room {C : Type 0} (n : ℕ) (columns : C → List ℕ) : Type 0 where
-  pub long : (c : C) → n ≤ length (columns c)
+rowIn bytes c k = rowNumber c (rowAt bytes k)
 
 -- the first k words of each column are those of `value`, and the later ones are the old ones
 pub record Filled {C : Type 0} (value : C → ℕ → ℕ) (k : ℕ) (old new : C → List ℕ) : Type 0 where
   pub is : (c : C) → new c ≡ filled (value c) k (old c)
 
--- no row is read where a record is refused
+-- no record is read where the head is refused, and no row where a record is
+abbrev pub recordsReached : ℕ → List ℕ → ℕ
+recordsReached span bytes = on (isClean (headCheck bytes)) (recordsRead span bytes)
+
 abbrev pub rowsReached : ℕ → List ℕ → ℕ
-rowsReached span bytes = on (isClean (recordsCheck span bytes)) (rowsRead bytes)
+rowsReached span bytes = on (isClean (headCheck bytes)) (on (isClean (recordsCheck span bytes)) (rowsRead bytes))
 
 -- a slice holds f 0 to f (n − 1)
 pub record Holds (words : List ℕ) (n : ℕ) (f : ℕ → ℕ) : Type 0 where
@@ -72,7 +89,6 @@ pub record Holds (words : List ℕ) (n : ℕ) (f : ℕ → ℕ) : Type 0 where
 
 -- nothing of the table is refused, and the columns hold its records and its rows
 pub record TableHeld (span : ℕ) (bytes : List ℕ) (records : RecordColumn → List ℕ) (rows : RowColumn → List ℕ) : Type 0 where
-  pub head : headCheck bytes ≡ Clean
-  pub body : bodyCheck span bytes ≡ Clean
+  pub clean : readCheck span bytes ≡ Clean
   pub ofRecords : (c : RecordColumn) → Holds (records c) (taskCount bytes) (recordIn bytes c)
   pub ofRows : (c : RowColumn) → Holds (rows c) (rowCount bytes) (rowIn bytes c)

@@ -5,7 +5,7 @@ ghost use lib.ListN.{length};
 ghost use Rattle.tables.specs.Layout.{Sound, latestAt, earliestFrom, recordFrom};
 ghost use Rattle.tables.specs.Rules.{longestDeadline};
 ghost use Rattle.tables.specs.Checks.{recordsCheck, recordsRead};
-ghost use Rattle.reading.specs.Columns.{recordColumns, recordIn, Room, Filled};
+ghost use Rattle.reading.specs.Columns.{recordColumns, rowColumns, recordIn, rowIn, Lent, Filled};
 ghost use Rattle.reading.specs.Reading.{HeadRead, taskFrom, delayAt, recordFault};
 use model::Priority;
 use model::Ticks;
@@ -136,17 +136,15 @@ pub fn read_all(
     layout: Layout,
     span: u32,
     n: usize,
-    priorities: &mut [u8],
-    periods: &mut [u32],
-    costs: &mut [u32],
-    deadlines: &mut [u32],
-    spreads: &mut [u32],
-    latest: &mut [u32],
+    room: usize,
+    bytes: &mut [u8],
+    words: &mut [u32],
 ) -> Check
     requires { ⌜ HeadRead (now table) layout n × (span ≤ 4) ⌝ }
-    requires { ⌜ Room n (recordColumns (now priorities) (now periods) (now costs) (now deadlines) (now spreads) (now latest)) ⌝ }
+    requires { ⌜ Lent (now table) room (now bytes) (now words) ⌝ }
     ensures { λ r. ⌜ r ≡ recordsCheck span (now (table .entry)) ⌝ }
-    ensures { λ r. ⌜ Filled (recordIn (now (table .entry))) (recordsRead span (now (table .entry))) (recordColumns (now (priorities .entry)) (now (periods .entry)) (now (costs .entry)) (now (deadlines .entry)) (now (spreads .entry)) (now (latest .entry))) (recordColumns (now (priorities .exit)) (now (periods .exit)) (now (costs .exit)) (now (deadlines .exit)) (now (spreads .exit)) (now (latest .exit))) ⌝ }
+    ensures { λ r. ⌜ Filled (recordIn (now (table .entry))) (recordsRead span (now (table .entry))) (recordColumns room (now (bytes .entry)) (now (words .entry))) (recordColumns room (now (bytes .exit)) (now (words .exit))) ⌝ }
+    ensures { λ r. ⌜ Filled (rowIn (now (table .entry))) 0 (rowColumns room (now (bytes .entry)) (now (words .entry))) (rowColumns room (now (bytes .exit)) (now (words .exit))) ⌝ }
 {
     let mut highest = Priority(HIGHEST_PRIORITY);
     let mut at = HEAD_SIZE;
@@ -156,12 +154,12 @@ pub fn read_all(
         if !is_clean(found) {
             return found;
         }
-        priorities[i] = task.priority.0;
-        periods[i] = task.period.0;
-        costs[i] = task.cost.0;
-        deadlines[i] = task.deadline.0;
-        spreads[i] = task.latest.0 - task.earliest.0;
-        latest[i] = task.latest.0;
+        bytes[i] = task.priority.0;
+        words[i] = task.period.0;
+        words[room + i] = task.cost.0;
+        words[2 * room + i] = task.deadline.0;
+        words[3 * room + i] = task.latest.0 - task.earliest.0;
+        words[4 * room + i] = task.latest.0;
         // priorities strictly fall
         highest = Priority(task.priority.0 - 1);
         at += layout.size;

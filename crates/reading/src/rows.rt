@@ -4,7 +4,7 @@ ghost use Prim.Native.Nat.{_+_, _≤_, _<_};
 ghost use lib.ListN.{length};
 ghost use Rattle.tables.specs.Layout.{rowFrom, rowCount, costIn};
 ghost use Rattle.tables.specs.Checks.{rowsCheck, rowsRead};
-ghost use Rattle.reading.specs.Columns.{rowColumns, rowIn, Room, Filled, Holds};
+ghost use Rattle.reading.specs.Columns.{costColumn, recordColumns, rowColumns, recordIn, rowIn, Lent, Filled, Holds};
 ghost use Rattle.reading.specs.Reading.{HeadRead, rowOf, rowKey, rowFault};
 use model::Place;
 use model::Ticks;
@@ -22,7 +22,11 @@ use tables::fields::count;
 use tables::fields::wide;
 use tables::fields::within;
 use tables::fields::word;
+use tables::is_clean;
 use tables::layout::Layout;
+
+// Each column of the rows has room for the most that any version has.
+const ROW_ROOM: usize = 64;
 
 // One row's numbers.
 pub struct RowRecord {
@@ -82,31 +86,31 @@ pub fn read_all(
     layout: Layout,
     n: usize,
     m: usize,
-    costs: &[u32],
-    places: &mut [u8],
-    semaphores: &mut [u8],
-    longest: &mut [u32],
+    room: usize,
+    bytes: &mut [u8],
+    words: &mut [u32],
 ) -> Check
     requires { ⌜ HeadRead (now table) layout n × (m ≡ rowCount (now table)) ⌝ }
-    requires { ⌜ Holds (now costs) n (costIn (now table)) × Room m (rowColumns (now places) (now semaphores) (now longest)) ⌝ }
+    requires { ⌜ Lent (now table) room (now bytes) (now words) ⌝ }
+    requires { ⌜ Holds (recordColumns room (now bytes) (now words) costColumn) n (costIn (now table)) ⌝ }
     ensures { λ r. ⌜ r ≡ rowsCheck (now (table .entry)) ⌝ }
-    ensures { λ r. ⌜ Filled (rowIn (now (table .entry))) (rowsRead (now (table .entry))) (rowColumns (now (places .entry)) (now (semaphores .entry)) (now (longest .entry))) (rowColumns (now (places .exit)) (now (semaphores .exit)) (now (longest .exit))) ⌝ }
+    ensures { λ r. ⌜ Filled (recordIn (now (table .entry))) 0 (recordColumns room (now (bytes .entry)) (now (words .entry))) (recordColumns room (now (bytes .exit)) (now (words .exit))) ⌝ }
+    ensures { λ r. ⌜ Filled (rowIn (now (table .entry))) (rowsRead (now (table .entry))) (rowColumns room (now (bytes .entry)) (now (words .entry))) (rowColumns room (now (bytes .exit)) (now (words .exit))) ⌝ }
 {
     // below every key: no row stands before the first
     let mut before: u32 = 0;
     let mut at = HEAD_SIZE + layout.size * n;
     for k in 0..m {
         let row = read(table, at);
+        let costs = &words[room..2 * room];
         let checked = check(row, at, n, costs, before);
-        match checked {
-            Check::Clean => {
-                places[k] = row.place.0 as u8;
-                semaphores[k] = row.semaphore;
-                longest[k] = row.longest.0;
-                before = key(row);
-            }
-            Check::Refused(refusal) => return Check::Refused(refusal),
+        if !is_clean(checked) {
+            return checked;
         }
+        bytes[room + k] = row.place.0 as u8;
+        bytes[room + ROW_ROOM + k] = row.semaphore;
+        words[5 * room + k] = row.longest.0;
+        before = key(row);
         at += ROW_SIZE;
     }
     Check::Clean

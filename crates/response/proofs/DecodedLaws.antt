@@ -40,11 +40,14 @@ decodedFrom records rows owners tops m =
     decoded (records priorityColumn) (records periodColumn) (records costColumn) (records deadlineColumn) (records spreadColumn) (records latestColumn) owners tops
     (rows longestColumn) m
 
--- what the test for room says
-pub room-is : (n answers rounds : ℕ) → both (leb n answers) (leb n rounds) ≡ true → (n ≤ answers) × (n ≤ rounds)
-room-is n answers rounds p =
+-- what the test for room says of the tasks that the head counts, and the other way round
+pub room-is : (n k answers rounds : ℕ) → n ≡ k → both (leb n answers) (leb n rounds) ≡ true → (k ≤ answers) × (k ≤ rounds)
+room-is n k answers rounds e p =
     let b = both-true (leb n answers) (leb n rounds) p in
-    (leb-true n answers (b .0), leb-true n rounds (b .1))
+    (omega (arith, leb-true n answers (b .0)), omega (arith, leb-true n rounds (b .1)))
+
+pub room-for : {n k answers rounds : ℕ} → n ≡ k → (k ≤ answers) × (k ≤ rounds) → (n ≤ answers) × (n ≤ rounds)
+room-for e room = (omega (arith, room .0), omega (arith, room .1))
 
 module _ (bytes : List ℕ) (records : RecordColumn → List ℕ) (rows : RowColumn → List ℕ) (held : TableHeld 1 bytes records rows) (n m : ℕ)
     (tasksCounted : n ≡ taskCount bytes) (rowsCounted : m ≡ rowCount bytes) where
@@ -179,5 +182,5 @@ module _ (bytes : List ℕ) (records : RecordColumn → List ℕ) (rows : RowCol
         Answered start (decodedFrom records rows owners tops m) n v answers answersLeft rounds roundsLeft →
         Outcome start bytes answers rounds v answersLeft roundsLeft
     table-answered start answers rounds room v answersLeft roundsLeft a =
-        answered start bytes answers rounds (held .head) (held .body) n tasksCounted (room .0) (room .1) (decodedFrom records rows owners tops m) v
+        answered start bytes answers rounds (held .clean) n tasksCounted (room .0) (room .1) (decodedFrom records rows owners tops m) v
         answersLeft roundsLeft a answer-agrees (λ i h. rounds-agree i h start)

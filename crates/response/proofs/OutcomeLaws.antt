@@ -1,7 +1,7 @@
 -- Which outcome each check leads to.
 -- Assumes nothing.
 use Prim.Native.Nat.{ℕ, _≤_, _<_}
-use mathlib.Core.Path.{_≡_, sym, _∙_, ap}
+use mathlib.Core.Path.{_≡_, _∙_, ap}
 use mathlib.Core.Bool.{false}
 use mathlib.Core.List.{List}
 use lib.Dec.{leb}
@@ -12,12 +12,11 @@ use Rattle.model.proofs.Filling.{filled-same}
 use Rattle.model.proofs.First.{first-same}
 use Rattle.tables.specs.declared.Refusal.{Refusal}
 use Rattle.tables.specs.declared.Refusal.the-variants.{NoRoom}
-use Rattle.tables.specs.declared.Check.{Check}
 use Rattle.tables.specs.declared.Check.the-variants as check
 use Rattle.tables.specs.Layout.{taskCount, tableOf}
 use Rattle.tables.specs.Refusals.{at}
-use Rattle.tables.specs.Checks.{headCheck, bodyCheck, tableCheck}
-use Rattle.tables.proofs.OrderLaws.{head-decides, body-decides, room-decides, all-pass}
+use Rattle.tables.specs.Checks.{readCheck, tableCheck}
+use Rattle.tables.proofs.OrderLaws.{read-decides, room-decides, all-pass}
 use Rattle.equation.specs.declared.Start.{Start}
 use Rattle.answering.specs.declared.Verdict.{Verdict}
 use Rattle.answering.specs.declared.Verdict.the-variants as verdict
@@ -33,21 +32,17 @@ module _ (start : Start) (bytes answers rounds : List ℕ) where
   unfolding verdictOf answersAfter roundsAfter
   refused r e = record { verdictIs = rw e; answersAre = rw e; roundsAre = rw e }
 
-  pub head-refused : (r : Refusal) → check.Refused r ≡ headCheck bytes → Outcome start bytes answers rounds (verdict.Refused r) answers rounds
-  head-refused r e = refused r (head-decides 1 bytes (length answers) (length rounds) r e)
+  pub read-refused : (r : Refusal) → check.Refused r ≡ readCheck 1 bytes → Outcome start bytes answers rounds (verdict.Refused r) answers rounds
+  read-refused r e = refused r (read-decides 1 bytes (length answers) (length rounds) r e)
 
-  pub body-refused : (r : Refusal) (head : Check) → head ≡ headCheck bytes → head ≡ check.Clean → check.Refused r ≡ bodyCheck 1 bytes →
-      Outcome start bytes answers rounds (verdict.Refused r) answers rounds
-  body-refused r head is clean e = refused r (body-decides 1 bytes (length answers) (length rounds) (sym is ∙ clean) r e)
-
-  module _ (head : headCheck bytes ≡ check.Clean) (body : bodyCheck 1 bytes ≡ check.Clean) (n : ℕ) (counted : n ≡ taskCount bytes) where
+  module _ (clean : readCheck 1 bytes ≡ check.Clean) (n : ℕ) (counted : n ≡ taskCount bytes) where
     pub no-room : both (leb n (length answers)) (leb n (length rounds)) ≡ false →
         Outcome start bytes answers rounds (verdict.Refused NoRoom) answers rounds
-    no-room e = refused NoRoom (room-decides 1 bytes (length answers) (length rounds) head body n counted e)
+    no-room e = refused NoRoom (room-decides 1 bytes (length answers) (length rounds) clean n counted e)
 
     module _ (answersLong : n ≤ length answers) (roundsLong : n ≤ length rounds) where
       accepted : tableCheck bytes (length answers) (length rounds) ≡ check.Clean
-      accepted = all-pass 1 bytes (length answers) (length rounds) head body n counted answersLong roundsLong
+      accepted = all-pass 1 bytes (length answers) (length rounds) clean n counted answersLong roundsLong
 
       filled-all : (f g : ℕ → ℕ) (old : List ℕ) → ((i : ℕ) → i < n → f i ≡ g i) → filled f n old ≡ filled g (taskCount bytes) old
       filled-all f g old same = filled-same f g n old same ∙ ap (λ (k : ℕ). filled g k old) counted

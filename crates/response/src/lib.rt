@@ -1,9 +1,11 @@
 // The public entry: the bytes of one table and two lent slices in, a verdict out, answers and rounds in the slices.
 ghost use mathlib.Core.Path.{_≡_};
-ghost use Prim.Native.Nat.{_<_};
+ghost use Prim.Native.Nat.{_≤_, _<_};
 ghost use lib.Dec.{leb};
+ghost use lib.ListN.{length};
 ghost use Rattle.model.specs.Choice.{both};
-ghost use Rattle.reading.specs.Columns.{recordColumns, rowColumns, TableHeld};
+ghost use Rattle.tables.specs.Layout.{taskCount};
+ghost use Rattle.reading.specs.Columns.{recordColumns, rowColumns, Lent, TableHeld};
 ghost use Rattle.response.specs.Verdicts.{codeOf, verdictPlace, packed};
 ghost use Rattle.response.specs.Outcome.{Outcome};
 ghost use Rattle.response.specs.Packing.{PackedOutcome};
@@ -61,51 +63,18 @@ pub fn analyse(table: &[u8], answers: &mut [u32], rounds: &mut [u32]) -> Verdict
 pub fn analyse_from(start: Start, table: &[u8], answers: &mut [u32], rounds: &mut [u32]) -> Verdict
     ensures { λ r. ⌜ Outcome start (now (table .entry)) (now (answers .entry)) (now (rounds .entry)) r (now (answers .exit)) (now (rounds .exit)) ⌝ }
 {
-    let head = tables::head::check(table);
-    if let Check::Refused(refusal) = head {
+    // columns for 32 tasks and 64 rows, the most that any version has
+    let mut bytes = [0u8; 160];
+    let mut words = [0u32; 224];
+    let found = reading::read(table, ONE_PERIOD, 32, &mut bytes, &mut words);
+    if let Check::Refused(refusal) = found {
         return Verdict::Refused(refusal);
     }
-    // room for the columns: no version has more than 32 tasks or 64 rows
-    let mut priorities = [0u8; 32];
-    let mut periods = [0u32; 32];
-    let mut costs = [0u32; 32];
-    let mut deadlines = [0u32; 32];
-    let mut spreads = [0u32; 32];
-    let mut latest = [0u32; 32];
-    let mut places = [0u8; 64];
-    let mut semaphores = [0u8; 64];
-    let mut longest = [0u32; 64];
-    let body = reading::read(
-        table,
-        ONE_PERIOD,
-        &mut priorities,
-        &mut periods,
-        &mut costs,
-        &mut deadlines,
-        &mut spreads,
-        &mut latest,
-        &mut places,
-        &mut semaphores,
-        &mut longest,
-    );
-    if let Check::Refused(refusal) = body {
-        return Verdict::Refused(refusal);
+    let n = count(table[TASK_COUNT_AT]);
+    if !room(n, answers.len(), rounds.len()) {
+        return Verdict::Refused(Refusal::NoRoom);
     }
-    answer(
-        start,
-        table,
-        &priorities,
-        &periods,
-        &costs,
-        &deadlines,
-        &spreads,
-        &latest,
-        &places,
-        &semaphores,
-        &longest,
-        answers,
-        rounds,
-    )
+    answer(start, table, &bytes, &words, answers, rounds)
 }
 
 // Is there a word for each of n tasks in both slices?
@@ -118,45 +87,40 @@ fn room(n: usize, answers: usize, rounds: usize) -> bool
     n <= rounds
 }
 
-// Answers a table that the columns hold, where the slices have room. The ceilings are found once.
+// Answers a table that the columns hold, in slices that have room. The ceilings are found once.
 fn answer(
     start: Start,
     table: &[u8],
-    priorities: &[u8],
-    periods: &[u32],
-    costs: &[u32],
-    deadlines: &[u32],
-    spreads: &[u32],
-    latest: &[u32],
-    places: &[u8],
-    semaphores: &[u8],
-    longest: &[u32],
+    bytes: &[u8],
+    words: &[u32],
     answers: &mut [u32],
     rounds: &mut [u32],
 ) -> Verdict
-    requires { ⌜ TableHeld 1 (now table) (recordColumns (now priorities) (now periods) (now costs) (now deadlines) (now spreads) (now latest)) (rowColumns (now places) (now semaphores) (now longest)) ⌝ }
+    requires { ⌜ Lent (now table) 32 (now bytes) (now words) ⌝ }
+    requires { ⌜ (taskCount (now table) ≤ length (now answers)) × (taskCount (now table) ≤ length (now rounds)) ⌝ }
+    requires { ⌜ TableHeld 1 (now table) (recordColumns 32 (now bytes) (now words)) (rowColumns 32 (now bytes) (now words)) ⌝ }
     ensures { λ r. ⌜ Outcome start (now (table .entry)) (now (answers .entry)) (now (rounds .entry)) r (now (answers .exit)) (now (rounds .exit)) ⌝ }
 {
     let n = count(table[TASK_COUNT_AT]);
     let m = count(table[ROW_COUNT_AT]);
-    if !room(n, answers.len(), rounds.len()) {
-        return Verdict::Refused(Refusal::NoRoom);
-    }
+    let priorities = &bytes[0..32];
+    let places = &bytes[32..96];
+    let semaphores = &bytes[96..160];
     let mut owners = [0u8; 64];
     let mut tops = [0u8; 64];
     blocking::spans(priorities, places, semaphores, m, &mut owners, &mut tops);
     answer_all(
         start,
         priorities,
-        periods,
-        costs,
-        deadlines,
-        spreads,
-        latest,
+        &words[0..32],
+        &words[32..64],
+        &words[64..96],
+        &words[96..128],
+        &words[128..160],
         n,
         &owners,
         &tops,
-        longest,
+        &words[160..224],
         m,
         answers,
         rounds,

@@ -57,6 +57,10 @@ rowsCheck bytes = firstOf isClean Clean (rowCheck bytes) (rowCount bytes)
 unfoldable pub bodyCheck : ℕ → List ℕ → Check
 bodyCheck span bytes = firstIn (recordsCheck span bytes ∷ rowsCheck bytes ∷ [])
 
+-- refusals 1 to 7: all that is found in reading a table
+unfoldable pub readCheck : ℕ → List ℕ → Check
+readCheck span bytes = firstIn (headCheck bytes ∷ bodyCheck span bytes ∷ [])
+
 -- "an answer slice has fewer than n words"
 unfoldable pub roomCheck : List ℕ → ℕ → ℕ → Check
 roomCheck bytes answers rounds = unless (both (leb (taskCount bytes) answers) (leb (taskCount bytes) rounds)) NoRoom

@@ -8,7 +8,7 @@ use lib.Dec.{eqb}
 use lib.ListN.{getD}
 use Rattle.model.specs.Choice.{pick}
 use Rattle.model.specs.Lists.{tabulate}
-use Rattle.model.specs.Tables.{Task, Row, Table, spreadOf}
+use Rattle.model.specs.Tables.{Task, Row, Table}
 use Rattle.tables.specs.declared.layout.DelayFields.{DelayFields}
 use Rattle.tables.specs.declared.layout.DelayFields.the-variants.{Jitter, Pair}
 use Rattle.tables.specs.declared.layout.Layout.{Layout}
@@ -179,9 +179,6 @@ earliestIn bytes i = taskAt bytes i .earliest
 
 abbrev pub latestIn : List ℕ → ℕ → ℕ
 latestIn bytes i = taskAt bytes i .latest
-
-abbrev pub spreadIn : List ℕ → ℕ → ℕ
-spreadIn bytes i = spreadOf (taskAt bytes i)
 
 -- one field of each row, by its number
 abbrev pub placeIn : List ℕ → ℕ → ℕ

@@ -34,14 +34,5 @@ returns-2 c = result-all (wordOf (c .before .before .args .answers .now)) _ _ (c
 pub result-spec : {M : Type 1} → statement M
 result-spec =
     tie.close
-    (tie.spec
-    Inv-loop
-    μ-loop
-    loop-holds
-    (λ c. omega arith)
-    shared-slice-read-if1
-    returns
-    (λ c. omega arith)
-    (λ c. omega arith)
-    loop-again
+    (tie.spec Inv-loop μ-loop loop-holds (λ c. omega arith) shared-slice-read-if1 returns (λ c. omega arith) (λ c. omega arith) loop-again
     returns-2)
