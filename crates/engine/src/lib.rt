@@ -22,7 +22,7 @@ use tables::fields::count;
 pub fn play(table: &[u8], answers: &mut [u32]) -> Verdict
     ensures { λ r. ⌜ Played (now (table .entry)) (now (answers .entry)) r (now (answers .exit)) ⌝ }
 {
-    // columns for 32 tasks and 64 rows, the most that any version has
+    // columns for 32 tasks and 64 rows, the most that any version has: 32 + 2 * 64 bytes and 5 * 32 + 64 words
     let mut bytes = [0u8; 160];
     let mut words = [0u32; 224];
     let found = reading::read(table, ONE_PERIOD, 32, &mut bytes, &mut words);
@@ -44,11 +44,15 @@ fn play_columns(table: &[u8], words: &[u32], answers: &mut [u32]) -> Verdict
     if table[ROW_COUNT_AT] != 0 {
         return Verdict::Refused(Refusal::NotPlayable);
     }
-    let delay = largest(&words[128..160], n);
+    let latest = &words[128..160];
+    let delay = largest(latest, n);
     if delay.0 != 0 {
         return Verdict::Refused(Refusal::NotPlayable);
     }
-    play_all(&words[0..32], &words[32..64], &words[64..96], n, answers);
+    let periods = &words[0..32];
+    let costs = &words[32..64];
+    let deadlines = &words[64..96];
+    play_all(periods, costs, deadlines, n, answers);
     result(answers, n)
 }
 

@@ -26,11 +26,13 @@ pub data RowColumn : Type 0 where
   semaphoreColumn : RowColumn
   longestColumn : RowColumn
 
--- The columns stand one behind another in two lent slices: in the bytes the priorities of `room` tasks and the places and semaphores of
--- 64 rows, which are the most in every version; in the words the other five numbers of `room` tasks and the longest sections.
+-- `long` words of a slice, from `start` on
 abbrev pub part : ℕ → ℕ → List ℕ → List ℕ
 part start long words = take long (drop start words)
 
+-- The columns stand one behind another in two lent slices. In the bytes: the priorities of `room` tasks, and the places and semaphores
+-- of 64 rows, the most that a version has. In the words: the other five numbers of `room` tasks, as many columns behind the first as is
+-- said, and the longest sections.
 abbrev pub recordColumns : (room : ℕ) (bytes words : List ℕ) → RecordColumn → List ℕ
 recordColumns room bytes words priorityColumn = part 0 room bytes
 recordColumns room bytes words periodColumn = part (0 * room) room words

@@ -63,7 +63,7 @@ pub fn analyse(table: &[u8], answers: &mut [u32], rounds: &mut [u32]) -> Verdict
 pub fn analyse_from(start: Start, table: &[u8], answers: &mut [u32], rounds: &mut [u32]) -> Verdict
     ensures { λ r. ⌜ Outcome start (now (table .entry)) (now (answers .entry)) (now (rounds .entry)) r (now (answers .exit)) (now (rounds .exit)) ⌝ }
 {
-    // columns for 32 tasks and 64 rows, the most that any version has
+    // columns for 32 tasks and 64 rows, the most that any version has: 32 + 2 * 64 bytes and 5 * 32 + 64 words
     let mut bytes = [0u8; 160];
     let mut words = [0u32; 224];
     let found = reading::read(table, ONE_PERIOD, 32, &mut bytes, &mut words);
@@ -109,6 +109,7 @@ fn answer(
     let mut owners = [0u8; 64];
     let mut tops = [0u8; 64];
     blocking::spans(priorities, places, semaphores, m, &mut owners, &mut tops);
+    // of the words: periods, costs, deadlines, spreads, latest delays; at the end the longest sections
     answer_all(
         start,
         priorities,
