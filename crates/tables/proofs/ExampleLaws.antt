@@ -17,6 +17,7 @@ placesDrawn =
       twoFaults = refl;
       cleanTwo = refl;
       placesTwo = refl;
+      twoFaultsTwo = refl;
       pastPeriod = refl;
       spansFour = refl;
       pastFour = refl;

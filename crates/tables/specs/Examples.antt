@@ -1,5 +1,5 @@
--- Places counted by hand: for each version a table that is not refused, and for each field a byte that makes it the first at fault
--- (document 02, L3 and L4).
+-- Places counted by hand: for each version a table that is not refused, for each field a byte that makes it the first at fault, and
+-- for each two that are tested one behind the other a table in which both are (SPECIFICATION 3; document 02, L3 and L4).
 -- Assumes nothing.
 use Prim.Native.Nat.{ℕ}
 use mathlib.Core.Path.{_≡_}
@@ -30,15 +30,30 @@ rightTwo =
     ∷ 1 ∷ 1 ∷ 0 ∷ 0 ∷ 0 ∷ 4
     ∷ []
 
--- a byte that is changed, what it is changed to, and the refusal's number and place
-pub record Change : Type 0 where
+-- a byte that is changed, and what it is changed to
+pub record Write : Type 0 where
   pub byte : ℕ
   pub value : ℕ
+
+-- the bytes that are changed, and the refusal's number and place
+pub record Change : Type 0 where
+  pub writes : List Write
   pub number : ℕ
   pub place : ℕ
 
+abbrev pub write : ℕ → ℕ → Write
+write byte value = record { byte = byte; value = value }
+
+-- one byte makes one fault; two bytes make two, and the refusal is that of the one that is tested first
 abbrev pub change : ℕ → ℕ → ℕ → ℕ → Change
-change byte value number place = record { byte = byte; value = value; number = number; place = place }
+change byte value number place = record { writes = write byte value ∷ []; number = number; place = place }
+
+abbrev pub faults : Write → Write → ℕ → ℕ → Change
+faults first second number place = record { writes = first ∷ second ∷ []; number = number; place = place }
+
+abbrev pub changed : List ℕ → List Write → List ℕ
+changed table [] = table
+changed table (w ∷ ws) = changed (set table (w .byte) (w .value)) ws
 
 -- n, m; T, C, D, J, priority of the second record; place, semaphore, length of the second row, and its order
 abbrev pub changes : List Change
@@ -77,20 +92,54 @@ changesTwo =
     ∷ change 53 0 7 53
     ∷ []
 
+-- Two faults at once, in each neighbouring pair of every order, so that no two that are tested one behind the other can change places: the
+-- version and n; n and m; m and the length; the length and a record; T and C; C and D; D and J; J and the priority; T and the priority;
+-- the first record's priority and the second one's T; a priority and a row; a row and the next; place and semaphore; semaphore and
+-- length; length and the row's order
+abbrev pub pairs : List Change
+pairs =
+    faults (write 0 9) (write 3 33) 2 0
+    ∷ faults (write 3 33) (write 4 65) 3 3
+    ∷ faults (write 4 65) (write 2 52) 3 4
+    ∷ faults (write 2 52) (write 9 0) 4 0
+    ∷ faults (write 26 0) (write 30 0) 5 23
+    ∷ faults (write 30 0) (write 34 31) 5 27
+    ∷ faults (write 34 31) (write 35 1) 5 31
+    ∷ faults (write 35 1) (write 22 2) 5 35
+    ∷ faults (write 26 0) (write 22 2) 5 23
+    ∷ faults (write 5 0) (write 26 0) 6 5
+    ∷ faults (write 22 2) (write 39 2) 6 22
+    ∷ faults (write 44 6) (write 45 2) 7 41
+    ∷ faults (write 45 2) (write 46 17) 7 45
+    ∷ faults (write 46 17) (write 50 5) 7 46
+    ∷ faults (write 45 0) (write 50 6) 7 47
+    ∷ []
+
+-- and in version 2: n and m; T and C; C and D; D and the earliest delay; the earliest and the latest, both out of range; the latest and
+-- the priority; place and semaphore; semaphore and length; length and the row's order
+abbrev pub pairsTwo : List Change
+pairsTwo =
+    faults (write 3 33) (write 4 65) 3 3
+    ∷ faults (write 30 0) (write 34 0) 5 27
+    ∷ faults (write 34 0) (write 38 31) 5 31
+    ∷ faults (write 38 31) (write 39 1) 5 35
+    ∷ faults (write 39 1) (write 43 1) 5 39
+    ∷ faults (write 43 1) (write 26 2) 5 43
+    ∷ faults (write 53 2) (write 54 17) 7 53
+    ∷ faults (write 54 17) (write 58 5) 7 54
+    ∷ faults (write 53 0) (write 58 6) 7 55
+    ∷ []
+
 -- the number and the place that are told, and nothing where the table is clean
 abbrev pub told : Check → List ℕ
 told Clean = []
 told (Refused refusal) = numberOf refusal ∷ placeOf refusal ∷ []
 
 abbrev pub toldOf : List ℕ → Change → List ℕ
-toldOf table c = told (tableCheck (set table (c .byte) (c .value)) 2 2)
+toldOf table c = told (tableCheck (changed table (c .writes)) 2 2)
 
 abbrev pub wantedOf : Change → List ℕ
 wantedOf c = c .number ∷ c .place ∷ []
-
--- T and the priority of the second record both at fault
-abbrev pub twice : List ℕ
-twice = set (set right 26 0) 22 2
 
 -- the deadline of the second task 120, which is four of its periods, and 121; its period 300,000 and its deadline 1,000,000, and one more
 abbrev pub fourPeriods : List ℕ
@@ -108,10 +157,11 @@ tooLong = set longest 34 65
 pub record PlacesDrawn : Type 0 where
   pub clean : tableCheck right 2 2 ≡ Clean
   pub places : map (toldOf right) changes ≡ map wantedOf changes
-  -- "taken as T, C, D, J, priority": the earlier of the two is told
-  pub twoFaults : told (tableCheck twice 2 2) ≡ 5 ∷ 23 ∷ []
+  -- "taken as T, C, D, J, priority, and in a row place, semaphore, length, then row order": the earlier of two faults is told
+  pub twoFaults : map (toldOf right) pairs ≡ map wantedOf pairs
   pub cleanTwo : tableCheck rightTwo 2 2 ≡ Clean
   pub placesTwo : map (toldOf rightTwo) changesTwo ≡ map wantedOf changesTwo
+  pub twoFaultsTwo : map (toldOf rightTwo) pairsTwo ≡ map wantedOf pairsTwo
   -- a deadline past the period is refused where it may span one, and right where it may span four: up to 4 T, and to 1,000,000
   pub pastPeriod : told (tableCheck fourPeriods 2 2) ≡ 5 ∷ 31 ∷ []
   pub spansFour : tableCheckSpanning 4 fourPeriods 2 2 ≡ Clean
