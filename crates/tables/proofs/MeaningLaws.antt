@@ -51,7 +51,7 @@ module _ (bytes : List ℕ) where
   unfolding lengthsAgree
   lengths-hold l = both-pass (eq-eqb _ _ (l .stated)) (eq-eqb _ _ (l .summed))
 
-  priority-means : (i : ℕ) → priorityFits bytes i ≡ true → PriorityInOrder bytes i
+  priority-means : (i : ℕ) → priorityFits bytes i ≡ true → PriorityInOrder (taskAt bytes) i
   unfolding priorityFits
   priority-means i p =
       let b = both-true (leb 1 (priorityIn bytes i)) _ p in
@@ -63,7 +63,7 @@ module _ (bytes : List ℕ) where
             subst (λ (j : ℕ). priorityIn bytes i < priorityIn bytes j) back (ltb-true _ _ second);
       }
 
-  priority-holds : (i : ℕ) → PriorityInOrder bytes i → priorityFits bytes i ≡ true
+  priority-holds : (i : ℕ) → PriorityInOrder (taskAt bytes) i → priorityFits bytes i ≡ true
   unfolding priorityFits
   priority-holds i o =
       both-pass (le-leb 1 (priorityIn bytes i) (o .positive)) (go i (o .falls))

@@ -5,10 +5,10 @@ use mathlib.Core.Path.{_≡_}
 use mathlib.Core.Logic.{_⊎_}
 use mathlib.Core.List.{List}
 use lib.ListN.{length}
-use Rattle.model.specs.Tables.{Row}
+use Rattle.model.specs.Tables.{Task, Row}
 use Rattle.tables.specs.Fields.{CountField, taskCountField, rowCountField, RecordField, periodField, costField, deadlineField, earliestField, latestField, priorityField, RowField, placeField, semaphoreField, longestField, orderField}
 use Rattle.tables.specs.Rules.{longestDeadline}
-use Rattle.tables.specs.Layout.{versionOf, layoutOf, statedLength, taskCount, rowCount, lengthFor, rowAt, priorityIn, periodIn, costIn, deadlineIn, earliestIn, latestIn}
+use Rattle.tables.specs.Layout.{versionOf, layoutOf, statedLength, taskCount, rowCount, lengthFor, taskAt, rowAt}
 
 -- 1: "fewer than 5 bytes"
 abbrev pub LongEnough : List ℕ → Type 0
@@ -36,35 +36,45 @@ pub record LengthsEqual (bytes : List ℕ) : Type 0 where
   pub stated : statedLength bytes ≡ length bytes
   pub summed : lengthFor (layoutOf bytes) (taskCount bytes) (rowCount bytes) ≡ length bytes
 
--- 6: "Priorities are 1 to 255 and strictly fall from each record to the next." (A byte is at most 255.)
-pub record PriorityInOrder (bytes : List ℕ) (i : ℕ) : Type 0 where
-  pub positive : 1 ≤ priorityIn bytes i
-  pub falls : (before : ℕ) → suc before ≡ i → priorityIn bytes i < priorityIn bytes before
+-- 6: "Priorities are 1 to 255 and strictly fall from each record to the next." (A byte is at most 255.) The tasks are given by their
+-- places.
+pub record PriorityInOrder (task : ℕ → Task) (i : ℕ) : Type 0 where
+  pub positive : 1 ≤ task i .priority
+  pub falls : (before : ℕ) → suc before ≡ i → task i .priority < task before .priority
 
 -- "Rows strictly rise by place, then semaphore."
 pub record RowsRise (before row : Row) : Type 0 where
   pub byPlace : before .place ≤ row .place
   pub thenSemaphore : before .place ≡ row .place → before .semaphore < row .semaphore
 
--- 5: "T and C are 1 to 1,000,000. D is 1 to T. J is 0 to 1,000,000."; "earliest at most latest, both at most 1,000,000"; and 6.
+-- 5: "T and C are 1 to 1,000,000. D is 1 to T. J is 0 to 1,000,000."; "earliest at most latest, both at most 1,000,000"; and 6: of
+-- any tasks, given by their places.
 -- `span` is how many periods a deadline may span: 1 in document 01, where `OnePeriod`, below, says that this is T.
+abbrev pub TaskFieldRight : ℕ → (ℕ → Task) → ℕ → RecordField → Type 0
+TaskFieldRight span task i periodField = Within 1 1000000 (task i .period)
+TaskFieldRight span task i costField = Within 1 1000000 (task i .cost)
+TaskFieldRight span task i deadlineField = Within 1 (longestDeadline span (task i .period)) (task i .deadline)
+TaskFieldRight span task i earliestField = Within 0 1000000 (task i .earliest)
+TaskFieldRight span task i latestField = Within (task i .earliest) 1000000 (task i .latest)
+TaskFieldRight span task i priorityField = PriorityInOrder task i
+
+-- and so of the records of a table
 abbrev pub RecordFieldRight : ℕ → List ℕ → ℕ → RecordField → Type 0
-RecordFieldRight span bytes i periodField = Within 1 1000000 (periodIn bytes i)
-RecordFieldRight span bytes i costField = Within 1 1000000 (costIn bytes i)
-RecordFieldRight span bytes i deadlineField = Within 1 (longestDeadline span (periodIn bytes i)) (deadlineIn bytes i)
-RecordFieldRight span bytes i earliestField = Within 0 1000000 (earliestIn bytes i)
-RecordFieldRight span bytes i latestField = Within (earliestIn bytes i) 1000000 (latestIn bytes i)
-RecordFieldRight span bytes i priorityField = PriorityInOrder bytes i
+RecordFieldRight span bytes i field = TaskFieldRight span (taskAt bytes) i field
 
 abbrev pub RecordRight : ℕ → List ℕ → ℕ → Type 0
 RecordRight span bytes i = (field : RecordField) → RecordFieldRight span bytes i field
 
--- 7: "A section row names a place 0 to n−1, a semaphore 1 to 16 and a length 1 to that task's C.", and the order
+-- 7: "A section row names a place 0 to n−1, a semaphore 1 to 16 and a length 1 to that task's C.", and the order: of any rows of n tasks
+abbrev pub SectionFieldRight : ℕ → (ℕ → Task) → (ℕ → Row) → ℕ → RowField → Type 0
+SectionFieldRight n task row k placeField = row k .place < n
+SectionFieldRight n task row k semaphoreField = Within 1 16 (row k .semaphore)
+SectionFieldRight n task row k longestField = Within 1 (task (row k .place) .cost) (row k .longest)
+SectionFieldRight n task row k orderField = (before : ℕ) → suc before ≡ k → RowsRise (row before) (row k)
+
+-- and so of the rows of a table
 abbrev pub RowFieldRight : List ℕ → ℕ → RowField → Type 0
-RowFieldRight bytes k placeField = rowAt bytes k .place < taskCount bytes
-RowFieldRight bytes k semaphoreField = Within 1 16 (rowAt bytes k .semaphore)
-RowFieldRight bytes k longestField = Within 1 (costIn bytes (rowAt bytes k .place)) (rowAt bytes k .longest)
-RowFieldRight bytes k orderField = (before : ℕ) → suc before ≡ k → RowsRise (rowAt bytes before) (rowAt bytes k)
+RowFieldRight bytes k field = SectionFieldRight (taskCount bytes) (taskAt bytes) (rowAt bytes) k field
 
 abbrev pub RowRight : List ℕ → ℕ → Type 0
 RowRight bytes k = (field : RowField) → RowFieldRight bytes k field

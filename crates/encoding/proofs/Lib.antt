@@ -1,0 +1,6 @@
+pub mod JoinLaws
+pub mod PieceLaws
+pub mod RuleLaws
+pub mod ByteLaws
+pub mod Encoding
+pub mod Shapes

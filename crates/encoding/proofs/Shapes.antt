@@ -1,0 +1,87 @@
+-- A table of each shape: tasks of one tick in order, and rows of one tick, 16 for a task.
+-- Assumes nothing.
+use Prim.Native.Nat.{ℕ, suc, _+_, _*_, _-_, _/_, _%_, _≤_, _<_}
+use native.Mathlib.Omega.{arith}
+use mathlib.Core.Path.{_≡_, refl, sym, _∙_, ap}
+use mathlib.Core.Logic.{_⊎_, inl, inr}
+use lib.ListN.{length, getD}
+use Rattle.model.specs.Lists.{tabulate}
+use Rattle.model.specs.Tables.{Task, Row, Table, noTask, taskOf}
+use Rattle.model.proofs.Lists.{length-tabulate, getD-tabulate}
+use Rattle.tables.specs.Fields.{RecordField, periodField, costField, deadlineField, earliestField, latestField, priorityField, RowField, placeField, semaphoreField, longestField, orderField}
+use Rattle.tables.specs.Layout.{layoutFor, taskCount, rowCount}
+use Rattle.tables.specs.Meaning.{Within, TaskFieldRight, SectionFieldRight}
+use Rattle.encoding.specs.Bytes.{encode}
+use Rattle.encoding.specs.Statements.{noRow, rowOf, Fits, AllShapes}
+use Rattle.encoding.proofs.RuleLaws.{fields-same, sections-same}
+use Rattle.encoding.proofs.Encoding.{encoded}
+
+most-tasks : (version : ℕ) → (version ≡ 1) ⊎ (version ≡ 2) → layoutFor version .most ≡ 32
+unfolding layoutFor
+most-tasks version (inl one) = rw one
+most-tasks version (inr two) = rw two
+
+module _ (n : ℕ) where
+  abbrev shapeTask : ℕ → Task
+  shapeTask i = record { priority = n - i; period = 1; cost = 1; deadline = 1; earliest = 0; latest = 0 }
+
+  abbrev shapeRow : ℕ → Row
+  shapeRow k = record { place = k / 16; semaphore = k % 16 + 1; longest = 1 }
+
+  abbrev shape : ℕ → Table
+  shape m = record { tasks = tabulate shapeTask n; rows = tabulate shapeRow m }
+
+  task-right : (i : ℕ) → i < n → (field : RecordField) → TaskFieldRight 1 shapeTask i field
+  task-right i h periodField = record { low = omega arith; high = omega arith }
+  task-right i h costField = record { low = omega arith; high = omega arith }
+  task-right i h deadlineField = record { low = omega arith; high = omega arith }
+  task-right i h earliestField = record { low = omega arith; high = omega arith }
+  task-right i h latestField = record { low = omega arith; high = omega arith }
+  task-right i h priorityField = record { positive = omega arith; falls = λ before e. omega arith }
+
+  row-right : (m k : ℕ) → k < m → m ≤ 16 * n → (field : RowField) → SectionFieldRight n shapeTask shapeRow k field
+  row-right m k h most placeField = omega arith
+  row-right m k h most semaphoreField = record { low = omega arith; high = omega arith }
+  row-right m k h most longestField = record { low = omega arith; high = omega arith }
+  row-right m k h most orderField = λ before e. record { byPlace = omega arith; thenSemaphore = λ same. omega arith }
+
+  shape-fits : (version m : ℕ) → (version ≡ 1) ⊎ (version ≡ 2) → Within 1 32 n → Within 0 64 m → m ≤ 16 * n → Fits version (shape m)
+  shape-fits version m known few rows most =
+      record {
+        known = known;
+        tasks = rw tasks-long (record { low = few .low; high = rw (most-tasks version known) (few .high) });
+        rows = rw rows-long rows;
+        eachTask = λ i h field.
+            let inside : i < n = omega (arith, tasks-long) in
+            fields-same n shapeTask (taskOf (tabulate shapeTask n)) task-at 1 i inside field (task-right i inside field);
+        eachRow = λ k h.
+            let inside : k < m = omega (arith, rows-long) in
+            rw tasks-long
+            (sections-same n shapeTask (taskOf (tabulate shapeTask n)) task-at m shapeRow (rowOf (tabulate shapeRow m)) row-at k inside
+            (row-right m k inside most));
+        priorities = λ i h. rw (sym (task-at i (omega (arith, tasks-long)))) (omega (arith, few .high));
+        noEarliest = λ e i h. rw (sym (task-at i (omega (arith, tasks-long))));
+      }
+    where
+      tasks-long : length (tabulate shapeTask n) ≡ n
+      tasks-long = length-tabulate shapeTask n
+
+      rows-long : length (tabulate shapeRow m) ≡ m
+      rows-long = length-tabulate shapeRow m
+
+      task-at : (i : ℕ) → i < n → shapeTask i ≡ taskOf (tabulate shapeTask n) i
+      task-at i h = sym (getD-tabulate shapeTask n i noTask h)
+
+      row-at : (k : ℕ) → k < m → shapeRow k ≡ rowOf (tabulate shapeRow m) k
+      row-at k h = sym (getD-tabulate shapeRow m k noRow h)
+
+pub allShapes : AllShapes
+allShapes version n m known few rows most = (
+  encode version (shape n m),
+  record {
+    accepted = encoded .accepted version (shape n m) (shape-fits n version m known few rows (omega arith));
+    inVersion = refl;
+    tasks = length-tabulate (shapeTask n) n;
+    rows = length-tabulate (shapeRow n) m;
+  },
+)
