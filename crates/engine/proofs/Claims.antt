@@ -33,6 +33,7 @@ use Rattle.response.specs.Verdicts.{verdictPlace}
 use Rattle.response.specs.Analysis.{answerOf}
 use Rattle.response.specs.Outcome.{verdictFor}
 use Rattle.tables.proofs.PlaceLaws.{refusal-place}
+use Rattle.response.specs.Statements.{Accepted}
 use Rattle.response.proofs.PlaceLaws.{result-place}
 use Rattle.response.proofs.TableLaws.{task-is, tasks-count, tasks-fit}
 use Rattle.response.proofs.Demands.{refused-by, result-cases, answers-kept, verdict-given, plain-answer, answers-filled, result-is}
@@ -198,23 +199,32 @@ same-check bytes answers rounds h =
     ]
 
 pub playsAsAnalysis : PlaysAsAnalysis
-playsAsAnalysis start bytes answers rounds left answersLeft roundsLeft v other o p enough never =
+playsAsAnalysis start lent result v left o p enough never =
     go (playCheck bytes (length answers)) refl
   where
-    go : (c : Check) → playCheck bytes (length answers) ≡ c → (v ≡ other) × (left ≡ answersLeft)
+    bytes : List ℕ
+    bytes = lent .bytes
+
+    answers : List ℕ
+    answers = lent .answers
+
+    go : (c : Check) → playCheck bytes (length answers) ≡ c → (v ≡ result .verdict) × (left ≡ result .answers)
     go check.Clean e =
         let right = play-right bytes (length answers) e in
-        let room : RoomFor bytes (length answers) (length rounds) = record { answersLong = right .1 .answersLong; roundsLong = enough } in
+        let accepted : Accepted lent = record { right = right .0; room = record { answersLong = right .1 .answersLong; roundsLong = enough } } in
         let equal = playsEquation bytes answers left v o (right .0) (right .1) (right .2) in (
-          equal .resultIs ∙ sym (result-is start bytes answers rounds other answersLeft roundsLeft p (right .0) room),
-          equal .answersAre ∙ sym (answers-filled start bytes answers rounds other answersLeft roundsLeft p (right .0) room),
+          equal .resultIs ∙ sym (result-is start lent result p accepted),
+          equal .answersAre ∙ sym (answers-filled start lent result p accepted),
         )
     go (check.Refused r) e =
         elim (play-deserved bytes (length answers) r e) [
           | inl d ↦
-              let refused = sym (same-check bytes (length answers) (length rounds) enough) ∙ table-gives 1 bytes (length answers) (length answers) r d in (
-                o .verdictIs ∙ play-given bytes (length answers) r e ∙ sym (p .verdictIs ∙ verdict-given bytes answers rounds r refused),
-                o .answersAre ∙ words-kept bytes answers r e ∙ sym (p .answersAre ∙ answers-kept bytes answers rounds r refused),
+              let refused =
+              sym (same-check bytes (length answers) (length (lent .rounds)) enough) ∙ table-gives 1 bytes (length answers) (length answers) r d in (
+                o .verdictIs
+                    ∙ play-given bytes (length answers) r e
+                    ∙ sym (p .verdictIs ∙ verdict-given bytes answers (lent .rounds) r refused),
+                o .answersAre ∙ words-kept bytes answers r e ∙ sym (p .answersAre ∙ answers-kept bytes answers (lent .rounds) r refused),
               )
           | inr d ↦ absurd (never (o .verdictIs ∙ play-given bytes (length answers) r e ∙ ap verdict.Refused (d .0)))
         ]

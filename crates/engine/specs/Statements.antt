@@ -19,7 +19,7 @@ use Rattle.answering.specs.declared.Verdict.{Verdict}
 use Rattle.answering.specs.declared.Verdict.the-variants.{Refused}
 use Rattle.response.specs.Analysis.{answerOf}
 use Rattle.answering.specs.Results.{resultOf}
-use Rattle.response.specs.Outcome.{Outcome}
+use Rattle.response.specs.Outcome.{Call, Left, Outcome}
 use Rattle.engine.specs.Run.{AsInRun}
 use Rattle.engine.specs.Outcome.{Played}
 
@@ -77,9 +77,9 @@ PlaysEquation =
 -- whatever start the rounds are from.
 abbrev pub PlaysAsAnalysis : Type 0
 PlaysAsAnalysis =
-    (start : Start) (bytes answers rounds left answersLeft roundsLeft : List ℕ) (verdict other : Verdict) →
-    Played bytes answers verdict left → Outcome start bytes answers rounds other answersLeft roundsLeft →
-    taskCount bytes ≤ length rounds → ¬ (verdict ≡ Refused NotPlayable) → (verdict ≡ other) × (left ≡ answersLeft)
+    (start : Start) (lent : Call) (result : Left) (verdict : Verdict) (left : List ℕ) →
+    Played (lent .bytes) (lent .answers) verdict left → Outcome start lent result →
+    taskCount (lent .bytes) ≤ length (lent .rounds) → ¬ (verdict ≡ Refused NotPlayable) → (verdict ≡ result .verdict) × (left ≡ result .answers)
 
 -- the contract leaves no second answer: the verdict and every word of the slice are determined
 abbrev pub NoSecondPlay : Type 0

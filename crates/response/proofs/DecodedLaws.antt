@@ -26,7 +26,7 @@ use Rattle.blocking.proofs.CeilingLaws.{blocking-agrees}
 use Rattle.response.specs.Analysis.{baseOf, answerOf, roundsOf}
 use Rattle.answering.specs.Slices.{Decoded, decoded, answerIn, roundsIn, DecodedFits, Answered}
 use Rattle.answering.specs.declared.Verdict.{Verdict}
-use Rattle.response.specs.Outcome.{Outcome}
+use Rattle.response.specs.Outcome.{lending, leaving, Outcome}
 use Rattle.response.proofs.OutcomeLaws.{answered}
 use Rattle.reading.specs.Columns.{RecordColumn, priorityColumn, periodColumn, costColumn, deadlineColumn, spreadColumn, latestColumn, RowColumn, placeColumn, semaphoreColumn, longestColumn, Holds, TableHeld}
 use Rattle.response.proofs.TableLaws as tables
@@ -180,7 +180,7 @@ module _ (bytes : List ℕ) (records : RecordColumn → List ℕ) (rows : RowCol
     pub table-answered : (start : Start) (answers rounds : List ℕ) → (n ≤ length answers) × (n ≤ length rounds) → (v : Verdict)
         (answersLeft roundsLeft : List ℕ) →
         Answered start (decodedFrom records rows owners tops m) n v answers answersLeft rounds roundsLeft →
-        Outcome start bytes answers rounds v answersLeft roundsLeft
+        Outcome start (lending bytes answers rounds) (leaving v answersLeft roundsLeft)
     table-answered start answers rounds room v answersLeft roundsLeft a =
         answered start bytes answers rounds (held .clean) n tasksCounted (room .0) (room .1) (decodedFrom records rows owners tops m) v
         answersLeft roundsLeft a answer-agrees (λ i h. rounds-agree i h start)

@@ -36,9 +36,9 @@ use Rattle.answering.specs.declared.Verdict.{Verdict}
 use Rattle.answering.specs.declared.Verdict.the-variants as verdict
 use Rattle.answering.specs.Results.{isSchedulable, lateIf, lateAt, resultOf}
 use Rattle.response.specs.Analysis.{baseOf, startOf, answerOf, roundsOf}
-use Rattle.response.specs.Outcome.{Outcome, verdictFor, verdictOf, answersAfter, roundsAfter}
+use Rattle.response.specs.Outcome.{Call, Left, leaving, Outcome, verdictFor, verdictOf, answersAfter, roundsAfter}
 use Rattle.response.specs.Statements as says
-use Rattle.response.specs.Statements.{AnswerRight, RoundsRight, ResultRight, Written}
+use Rattle.response.specs.Statements.{Accepted, AnswerRight, RoundsRight, ResultRight, Written}
 use Rattle.response.proofs.PlaceLaws.{schedulable-only}
 use Rattle.response.proofs.TableLaws.{tasks-count, tasks-fit, periods-of}
 
@@ -103,32 +103,40 @@ module _ (bytes answers rounds : List ℕ) where
 pub demand1 : says.Demand1
 demand1 =
     record {
-      answered = λ start bytes answers rounds. (
-        verdictOf bytes (length answers) (length rounds),
-        answersAfter bytes answers rounds,
-        roundsAfter start bytes answers rounds,
+      answered = λ start lent. (
+        leaving (verdictOf (lent .bytes) (length (lent .answers)) (length (lent .rounds))) (answersAfter (lent .bytes) (lent .answers) (lent .rounds))
+            (roundsAfter start (lent .bytes) (lent .answers) (lent .rounds)),
         record { verdictIs = refl; answersAre = refl; roundsAre = refl },
       );
-      refused = λ start bytes answers rounds answersLeft roundsLeft r o.
-          let e = refusal-is bytes answers rounds r (o .verdictIs) in (
-            table-deserved 1 bytes (length answers) (length rounds) r e,
-            o .answersAre ∙ answers-kept bytes answers rounds r e,
-            o .roundsAre ∙ rounds-kept bytes answers rounds start r e,
+      refused = λ start lent result r o is.
+          let e = refusal-is (lent .bytes) (lent .answers) (lent .rounds) r (sym is ∙ o .verdictIs) in (
+            table-deserved 1 (lent .bytes) (length (lent .answers)) (length (lent .rounds)) r e,
+            o .answersAre ∙ answers-kept (lent .bytes) (lent .answers) (lent .rounds) r e,
+            o .roundsAre ∙ rounds-kept (lent .bytes) (lent .answers) (lent .rounds) start r e,
           );
-      given = λ start bytes answers rounds answersLeft roundsLeft v r d o.
-          o .verdictIs ∙ verdict-given bytes answers rounds r (table-gives 1 bytes (length answers) (length rounds) r d);
-      notRefused = λ start bytes answers rounds answersLeft roundsLeft v o never.
-          table-right 1 bytes (length answers) (length rounds)
-          (check-clean bytes answers rounds (λ r e. never r (o .verdictIs ∙ e)));
-      accepted = λ start bytes answers rounds answersLeft roundsLeft r right room o.
-          clash (isClean (tableCheck bytes (length answers) (length rounds)))
-          (ap isClean (table-clean 1 bytes (length answers) (length rounds) right room))
-          (ap isClean (refusal-is bytes answers rounds r (o .verdictIs)));
+      given = λ start lent result r o d.
+          o .verdictIs
+          ∙ verdict-given (lent .bytes) (lent .answers) (lent .rounds) r
+          (table-gives 1 (lent .bytes) (length (lent .answers)) (length (lent .rounds)) r d);
+      notRefused = λ start lent result o never.
+          let right =
+          table-right 1 (lent .bytes) (length (lent .answers)) (length (lent .rounds))
+          (check-clean (lent .bytes) (lent .answers) (lent .rounds) (λ r e. never r (o .verdictIs ∙ e))) in
+          record { right = right .0; room = right .1 };
+      accepted = λ start lent result r o a is.
+          clash (isClean (tableCheck (lent .bytes) (length (lent .answers)) (length (lent .rounds))))
+          (ap isClean (table-clean 1 (lent .bytes) (length (lent .answers)) (length (lent .rounds)) (a .right) (a .room)))
+          (ap isClean (refusal-is (lent .bytes) (lent .answers) (lent .rounds) r (sym is ∙ o .verdictIs)));
     }
 
+-- a result is its three parts
+pub same-left : (result other : Left) → result .verdict ≡ other .verdict → result .answers ≡ other .answers → result .rounds ≡ other .rounds →
+    result ≡ other
+same-left result other verdict answers rounds = λ i. record { verdict = verdict i; answers = answers i; rounds = rounds i }
+
 pub noSecondAnswer : says.NoSecondAnswer
-noSecondAnswer start bytes answers rounds v w a r b s o p =
-    (o .verdictIs ∙ sym (p .verdictIs), o .answersAre ∙ sym (p .answersAre), o .roundsAre ∙ sym (p .roundsAre))
+noSecondAnswer start lent result other o p =
+    same-left result other (o .verdictIs ∙ sym (p .verdictIs)) (o .answersAre ∙ sym (p .answersAre)) (o .roundsAre ∙ sym (p .roundsAre))
 
 -- the answer and the rounds of a task, said without a search
 module _ (table : Table) (i : ℕ) (costLow : 1 ≤ taskOf (table .tasks) i .cost) where
@@ -224,54 +232,60 @@ module _ (bytes : List ℕ) (calm : NoDelay (tasksOf bytes)) (bare : rowCount by
   plain-answer i h =
       rw (no-blocking i, add-zero (taskOf (tasksOf bytes) i .cost), calm i (omega (arith, tasks-count bytes)))
 
-module _ (start : Start) (bytes answers rounds : List ℕ) (v : Verdict) (answersLeft roundsLeft : List ℕ)
-    (o : Outcome start bytes answers rounds v answersLeft roundsLeft) (right : TableRight bytes)
-    (room : RoomFor bytes (length answers) (length rounds)) where
-  clean : tableCheck bytes (length answers) (length rounds) ≡ check.Clean
-  clean = table-clean 1 bytes (length answers) (length rounds) right room
+module _ (start : Start) (lent : Call) (result : Left) (o : Outcome start lent result) (accepted : Accepted lent) where
+  abbrev bytes : List ℕ
+  bytes = lent .bytes
 
-  pub answers-filled : answersLeft ≡ filled (answerOf (tableOf bytes)) (taskCount bytes) answers
+  clean : tableCheck bytes (length (lent .answers)) (length (lent .rounds)) ≡ check.Clean
+  clean = table-clean 1 bytes (length (lent .answers)) (length (lent .rounds)) (accepted .right) (accepted .room)
+
+  pub answers-filled : result .answers ≡ filled (answerOf (tableOf bytes)) (taskCount bytes) (lent .answers)
   unfolding answersAfter
   answers-filled = o .answersAre ∙ rw clean
 
-  rounds-filled : roundsLeft ≡ filled (roundsOf start (tableOf bytes)) (taskCount bytes) rounds
+  rounds-filled : result .rounds ≡ filled (roundsOf start (tableOf bytes)) (taskCount bytes) (lent .rounds)
   unfolding roundsAfter
   rounds-filled = o .roundsAre ∙ rw clean
 
-  pub answer-word : (i : ℕ) → i < taskCount bytes → wordOf answersLeft i ≡ answerOf (tableOf bytes) i
-  answer-word i h = ap (λ l. getD l i 0) answers-filled ∙ getD-filled (answerOf (tableOf bytes)) (taskCount bytes) i answers 0 h
+  pub answer-word : (i : ℕ) → i < taskCount bytes → wordOf (result .answers) i ≡ answerOf (tableOf bytes) i
+  answer-word i h = ap (λ l. getD l i 0) answers-filled ∙ getD-filled (answerOf (tableOf bytes)) (taskCount bytes) i (lent .answers) 0 h
 
-  pub rounds-word : (i : ℕ) → i < taskCount bytes → wordOf roundsLeft i ≡ roundsOf start (tableOf bytes) i
-  rounds-word i h = ap (λ l. getD l i 0) rounds-filled ∙ getD-filled (roundsOf start (tableOf bytes)) (taskCount bytes) i rounds 0 h
+  pub rounds-word : (i : ℕ) → i < taskCount bytes → wordOf (result .rounds) i ≡ roundsOf start (tableOf bytes) i
+  rounds-word i h = ap (λ l. getD l i 0) rounds-filled ∙ getD-filled (roundsOf start (tableOf bytes)) (taskCount bytes) i (lent .rounds) 0 h
 
   cost-low : (i : ℕ) → i < taskCount bytes → 1 ≤ taskOf (tasksOf bytes) i .cost
-  cost-low i h = tasks-fit bytes (right .records) .costLow i (omega (arith, tasks-count bytes))
+  cost-low i h = tasks-fit bytes (accepted .right .records) .costLow i (omega (arith, tasks-count bytes))
 
-  pub result-is : v ≡ resultOf (answerOf (tableOf bytes)) (taskCount bytes)
+  pub result-is : result .verdict ≡ resultOf (answerOf (tableOf bytes)) (taskCount bytes)
   unfolding verdictOf
   result-is = o .verdictIs ∙ rw clean
 
-  written : Written start bytes answers rounds v answersLeft roundsLeft
+  written : Written start lent result
   written =
       record {
         answersRight = λ i h. rw (answer-word i h) (answer-right (tableOf bytes) i (cost-low i h));
-        roundsRight = λ i h. rw (rounds-word i h) (rounds-right (tableOf bytes) i (cost-low i h) start (periods-of bytes (right .records) i h));
-        answersLong = ap length answers-filled ∙ length-filled (answerOf (tableOf bytes)) (taskCount bytes) answers (room .answersLong);
-        roundsLong = ap length rounds-filled ∙ length-filled (roundsOf start (tableOf bytes)) (taskCount bytes) rounds (room .roundsLong);
+        roundsRight = λ i h.
+            rw (rounds-word i h) (rounds-right (tableOf bytes) i (cost-low i h) start (periods-of bytes (accepted .right .records) i h));
+        answersLong =
+            ap length answers-filled ∙ length-filled (answerOf (tableOf bytes)) (taskCount bytes) (lent .answers) (accepted .room .answersLong);
+        roundsLong =
+            ap length rounds-filled ∙ length-filled (roundsOf start (tableOf bytes)) (taskCount bytes) (lent .rounds) (accepted .room .roundsLong);
         answersStay = λ i h.
-            ap (λ l. getD l i 0) answers-filled ∙ getD-filled-past (answerOf (tableOf bytes)) (taskCount bytes) i answers 0 h;
+            ap (λ l. getD l i 0) answers-filled ∙ getD-filled-past (answerOf (tableOf bytes)) (taskCount bytes) i (lent .answers) 0 h;
         roundsStay = λ i h.
-            ap (λ l. getD l i 0) rounds-filled ∙ getD-filled-past (roundsOf start (tableOf bytes)) (taskCount bytes) i rounds 0 h;
-        result =
-            result-transfer (answerOf (tableOf bytes)) (wordOf answersLeft) (taskCount bytes) v (λ i h. sym (answer-word i h))
+            ap (λ l. getD l i 0) rounds-filled ∙ getD-filled-past (roundsOf start (tableOf bytes)) (taskCount bytes) i (lent .rounds) 0 h;
+        verdictRight =
+            result-transfer (answerOf (tableOf bytes)) (wordOf (result .answers)) (taskCount bytes) (result .verdict)
+            (λ i h. sym (answer-word i h))
             (subst (ResultRight (answerOf (tableOf bytes)) (taskCount bytes)) (sym result-is)
             (result-right (answerOf (tableOf bytes)) (taskCount bytes)));
       }
 
-  run-answers : NoDelay (tasksOf bytes) → rowCount bytes ≡ 0 → (i : ℕ) → i < taskCount bytes → Answers (tasksOf bytes) i (wordOf answersLeft i)
+  run-answers : NoDelay (tasksOf bytes) → rowCount bytes ≡ 0 → (i : ℕ) → i < taskCount bytes →
+      Answers (tasksOf bytes) i (wordOf (result .answers) i)
   run-answers calm bare i h =
       rw (answer-word i h ∙ plain-answer bytes calm bare i h)
-      (runs.demand3 (tasksOf bytes) (tasks-fit bytes (right .records)) calm i (omega (arith, tasks-count bytes)))
+      (runs.demand3 (tasksOf bytes) (tasks-fit bytes (accepted .right .records)) calm i (omega (arith, tasks-count bytes)))
 
 pub demand2 : says.Demand2
 demand2 = written

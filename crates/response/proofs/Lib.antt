@@ -3,6 +3,7 @@ pub mod OutcomeLaws
 pub mod DecodedLaws
 pub mod PlaceLaws
 pub mod Demands
+pub mod OnlyWritten
 pub mod Starts
 pub mod VersionOne
 pub mod WorkedTables

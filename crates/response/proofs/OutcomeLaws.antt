@@ -22,22 +22,22 @@ use Rattle.answering.specs.declared.Verdict.{Verdict}
 use Rattle.answering.specs.declared.Verdict.the-variants as verdict
 use Rattle.answering.specs.Results.{isSchedulable, resultOf, lateIf}
 use Rattle.response.specs.Analysis.{answerOf, roundsOf}
-use Rattle.response.specs.Outcome.{Outcome, verdictOf, answersAfter, roundsAfter}
+use Rattle.response.specs.Outcome.{lending, leaving, Outcome, verdictOf, answersAfter, roundsAfter}
 use Rattle.answering.specs.Slices.{Decoded, answerIn, roundsIn, Answered}
 
 module _ (start : Start) (bytes answers rounds : List ℕ) where
   -- a refusal leaves both slices as they were
   refused : (r : Refusal) → tableCheck bytes (length answers) (length rounds) ≡ check.Refused r →
-      Outcome start bytes answers rounds (verdict.Refused r) answers rounds
+      Outcome start (lending bytes answers rounds) (leaving (verdict.Refused r) answers rounds)
   unfolding verdictOf answersAfter roundsAfter
   refused r e = record { verdictIs = rw e; answersAre = rw e; roundsAre = rw e }
 
-  pub read-refused : (r : Refusal) → check.Refused r ≡ readCheck 1 bytes → Outcome start bytes answers rounds (verdict.Refused r) answers rounds
+  pub read-refused : (r : Refusal) → check.Refused r ≡ readCheck 1 bytes → Outcome start (lending bytes answers rounds) (leaving (verdict.Refused r) answers rounds)
   read-refused r e = refused r (read-decides 1 bytes (length answers) (length rounds) r e)
 
   module _ (clean : readCheck 1 bytes ≡ check.Clean) (n : ℕ) (counted : n ≡ taskCount bytes) where
     pub no-room : both (leb n (length answers)) (leb n (length rounds)) ≡ false →
-        Outcome start bytes answers rounds (verdict.Refused NoRoom) answers rounds
+        Outcome start (lending bytes answers rounds) (leaving (verdict.Refused NoRoom) answers rounds)
     no-room e = refused NoRoom (room-decides 1 bytes (length answers) (length rounds) clean n counted e)
 
     module _ (answersLong : n ≤ length answers) (roundsLong : n ≤ length rounds) where
@@ -51,7 +51,7 @@ module _ (start : Start) (bytes answers rounds : List ℕ) where
       pub answered : (d : Decoded) (v : Verdict) (answersLeft roundsLeft : List ℕ) →
           Answered start d n v answers answersLeft rounds roundsLeft →
           ((i : ℕ) → i < n → answerIn d i ≡ answerOf (tableOf bytes) i) → ((i : ℕ) → i < n → roundsIn start d i ≡ roundsOf start (tableOf bytes) i) →
-          Outcome start bytes answers rounds v answersLeft roundsLeft
+          Outcome start (lending bytes answers rounds) (leaving v answersLeft roundsLeft)
       unfolding verdictOf answersAfter roundsAfter
       answered d v answersLeft roundsLeft a answer round =
           record {

@@ -17,14 +17,13 @@ use Rattle.tables.specs.Meaning.{TableRight}
 use Rattle.tables.proofs.CheckLaws.{table-right}
 use Rattle.equation.specs.declared.Start.{Start}
 use Rattle.equation.specs.declared.Start.the-variants.{EveryCost, OwnCost}
-use Rattle.equation.specs.Answer.{answerFor}
 use Rattle.equation.specs.Laws.{IsSmallest}
 use Rattle.equation.proofs.Laws.{sequenceReaches}
 use Rattle.equation.proofs.StartLaws.{bothStarts}
 use Rattle.response.specs.Analysis.{baseOf, startOf, answerOf, roundsOf}
 use Rattle.response.specs.Outcome.{roundsAfter}
 use Rattle.response.specs.Statements.{x}
-use Rattle.response.specs.Starts.{TwoStarts}
+use Rattle.response.specs.Starts.{cameTo, TwoStarts}
 use Rattle.response.proofs.TableLaws.{tasks-count, tasks-fit, periods-of}
 use Rattle.response.proofs.Demands.{answer-word, rounds-word}
 
@@ -48,9 +47,7 @@ module _ (bytes : List ℕ) (right : TableRight bytes) (i : ℕ) (h : i < taskCo
       (low, sequenceReaches .reaches base loads (startOf start (tableOf bytes) i) w base-positive low s)
 
   -- the answer is what the sequence has come to in its last round
-  followed : (start : Start) →
-      answerOf (tableOf bytes) i
-      ≡ answerFor (taskOf (tasksOf bytes) i .latest) (taskOf (tasksOf bytes) i .deadline) (x start (tableOf bytes) i (roundsOf start (tableOf bytes) i))
+  followed : (start : Start) → answerOf (tableOf bytes) i ≡ cameTo start bytes i (roundsOf start (tableOf bytes) i)
   unfolding answerOf roundsOf
   followed start =
       sym
@@ -101,14 +98,12 @@ module _ (bytes answers rounds : List ℕ) where
 pub twoStarts : TwoStarts
 twoStarts =
     record {
-      sameAnswers = λ start other bytes answers rounds v w a r b s o p.
-          (o .verdictIs ∙ sym (p .verdictIs), o .answersAre ∙ sym (p .answersAre));
+      sameAnswers = λ start other lent result another o p. (o .verdictIs ∙ sym (p .verdictIs), o .answersAre ∙ sym (p .answersAre));
       reached = λ start bytes right i w h s. reached bytes right i h start w s;
-      followed = λ start bytes answers rounds v answersLeft roundsLeft o right room i h.
-          answer-word start bytes answers rounds v answersLeft roundsLeft o right room i h
-          ∙ followed bytes right i h start
-          ∙ ap (λ (k : ℕ). answerFor (taskOf (tasksOf bytes) i .latest) (taskOf (tasksOf bytes) i .deadline) (x start (tableOf bytes) i k))
-          (sym (rounds-word start bytes answers rounds v answersLeft roundsLeft o right room i h));
-      neverMore = λ bytes answers rounds v w a r b s o p i.
-          rw (o .roundsAre, p .roundsAre) (words-fewer bytes answers rounds i);
+      followed = λ start lent result o accepted i h.
+          answer-word start lent result o accepted i h
+          ∙ followed (lent .bytes) (accepted .right) i h start
+          ∙ ap (cameTo start (lent .bytes) i) (sym (rounds-word start lent result o accepted i h));
+      neverMore = λ lent result old o p i.
+          rw (o .roundsAre, p .roundsAre) (words-fewer (lent .bytes) (lent .answers) (lent .rounds) i);
     }

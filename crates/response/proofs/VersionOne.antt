@@ -148,15 +148,15 @@ versionOneKept =
       reads = table-one;
       accepts = λ bytes one rules. right-holds bytes one (subst (λ (A : Type 0). A) (sym (rules-same bytes one)) rules);
       refuses = λ bytes one right. subst (λ (A : Type 0). A) (rules-same bytes one) (rules-hold bytes one right);
-      keeps = λ start bytes answers rounds verdict answersLeft roundsLeft outcome right room one i h.
+      keeps = λ start lent result o accepted one i h.
           record {
             answerKept =
-                answer-word start bytes answers rounds verdict answersLeft roundsLeft outcome right room i h
-                ∙ ap (λ (t : Table). answerOf t i) (table-one bytes one)
-                ∙ answer-one bytes i;
+                answer-word start lent result o accepted i h
+                ∙ ap (λ (t : Table). answerOf t i) (table-one (lent .bytes) one)
+                ∙ answer-one (lent .bytes) i;
             roundsKept =
-                rounds-word start bytes answers rounds verdict answersLeft roundsLeft outcome right room i h
-                ∙ ap (λ (t : Table). roundsOf start t i) (table-one bytes one)
-                ∙ rounds-one start bytes i;
+                rounds-word start lent result o accepted i h
+                ∙ ap (λ (t : Table). roundsOf start t i) (table-one (lent .bytes) one)
+                ∙ rounds-one start (lent .bytes) i;
           };
     }

@@ -39,8 +39,26 @@ unfoldable pub roundsAfter : Start → List ℕ → List ℕ → List ℕ → Li
 roundsAfter start bytes answers rounds =
     wordsAfter (tableCheck bytes (length answers) (length rounds)) (filled (roundsOf start (tableOf bytes)) (taskCount bytes) rounds) rounds
 
+-- what a call is lent: the bytes of a table, and the words of both slices as they are before
+pub record Call : Type 0 where
+  pub bytes : List ℕ
+  pub answers : List ℕ
+  pub rounds : List ℕ
+
+-- what it says, and the words of both slices as it leaves them
+pub record Left : Type 0 where
+  pub verdict : Verdict
+  pub answers : List ℕ
+  pub rounds : List ℕ
+
+abbrev pub lending : (bytes answers rounds : List ℕ) → Call
+lending bytes answers rounds = record { bytes = bytes; answers = answers; rounds = rounds }
+
+abbrev pub leaving : (verdict : Verdict) (answers rounds : List ℕ) → Left
+leaving verdict answers rounds = record { verdict = verdict; answers = answers; rounds = rounds }
+
 -- The whole outcome: the verdict, and every word of both slices. Only the rounds depend on the start.
-pub record Outcome (start : Start) (bytes answers rounds : List ℕ) (verdict : Verdict) (answersLeft roundsLeft : List ℕ) : Type 0 where
-  pub verdictIs : verdict ≡ verdictOf bytes (length answers) (length rounds)
-  pub answersAre : answersLeft ≡ answersAfter bytes answers rounds
-  pub roundsAre : roundsLeft ≡ roundsAfter start bytes answers rounds
+pub record Outcome (start : Start) (lent : Call) (result : Left) : Type 0 where
+  pub verdictIs : result .verdict ≡ verdictOf (lent .bytes) (length (lent .answers)) (length (lent .rounds))
+  pub answersAre : result .answers ≡ answersAfter (lent .bytes) (lent .answers) (lent .rounds)
+  pub roundsAre : result .rounds ≡ roundsAfter start (lent .bytes) (lent .answers) (lent .rounds)

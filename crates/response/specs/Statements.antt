@@ -21,30 +21,34 @@ use Rattle.runs.specs.Statement.{Answers}
 use Rattle.answering.specs.declared.Verdict.{Verdict}
 use Rattle.answering.specs.declared.Verdict.the-variants.{Refused, Schedulable, Late}
 use Rattle.response.specs.Analysis.{baseOf, startOf}
-use Rattle.response.specs.Outcome.{Outcome}
+use Rattle.response.specs.Outcome.{Call, Left, Outcome}
 
--- Demand 1: "Any bytes and any lent slices get an answer." `analyse_from` has no `requires` and is proved to return; what it returns is
+-- the table that is lent breaks no rule, and each slice has a word for each of its tasks
+pub record Accepted (lent : Call) : Type 0 where
+  pub right : TableRight (lent .bytes)
+  pub room : RoomFor (lent .bytes) (length (lent .answers)) (length (lent .rounds))
+
+-- a refusal is deserved by what is lent
+abbrev pub DeservedBy : Call → Refusal → Type 0
+DeservedBy lent refusal = Deserved (lent .bytes) (length (lent .answers)) (length (lent .rounds)) refusal
+
+-- Demand 1 (SPECIFICATION 8.1): whatever is lent is answered. `analyse_from` has no `requires` and is proved to return; what it returns is
 -- an `Outcome`, and there is one for either start and all bytes and slices.
 pub record Demand1 : Type 0 where
-  pub answered : (start : Start) (bytes answers rounds : List ℕ) →
-      (verdict : Verdict) × (answersLeft : List ℕ) × (roundsLeft : List ℕ) × Outcome start bytes answers rounds verdict answersLeft roundsLeft
+  pub answered : (start : Start) (lent : Call) → (result : Left) × Outcome start lent result
   -- "the first that applies is given, and it is given only when it applies", at "the byte offset of the first faulty field" (document
-  -- 02, L3): `Deserved` says which; "A refusal .. changes no word."
-  pub refused : (start : Start) (bytes answers rounds answersLeft roundsLeft : List ℕ) (refusal : Refusal) →
-      Outcome start bytes answers rounds (Refused refusal) answersLeft roundsLeft →
-      Deserved bytes (length answers) (length rounds) refusal × (answersLeft ≡ answers) × (roundsLeft ≡ rounds)
-  -- and it is given whenever it applies: "A bad table gets one of eight refusals"
-  pub given : (start : Start) (bytes answers rounds answersLeft roundsLeft : List ℕ) (verdict : Verdict) (refusal : Refusal) →
-      Deserved bytes (length answers) (length rounds) refusal →
-      Outcome start bytes answers rounds verdict answersLeft roundsLeft → verdict ≡ Refused refusal
-  -- a table that is not refused breaks no rule, and has room
-  pub notRefused : (start : Start) (bytes answers rounds answersLeft roundsLeft : List ℕ) (verdict : Verdict) →
-      Outcome start bytes answers rounds verdict answersLeft roundsLeft → ((refusal : Refusal) → ¬ (verdict ≡ Refused refusal)) →
-      TableRight bytes × RoomFor bytes (length answers) (length rounds)
-  -- "A table that breaks no rule is never refused."
-  pub accepted : (start : Start) (bytes answers rounds answersLeft roundsLeft : List ℕ) (refusal : Refusal) →
-      TableRight bytes → RoomFor bytes (length answers) (length rounds) →
-      ¬ Outcome start bytes answers rounds (Refused refusal) answersLeft roundsLeft
+  -- 02, L3): `Deserved` says which; "A refusal returns the number and the place, and changes no word."
+  pub refused : (start : Start) (lent : Call) (result : Left) (refusal : Refusal) → Outcome start lent result → result .verdict ≡ Refused refusal →
+      DeservedBy lent refusal × (result .answers ≡ lent .answers) × (result .rounds ≡ lent .rounds)
+  -- and whatever deserves a refusal gets it
+  pub given : (start : Start) (lent : Call) (result : Left) (refusal : Refusal) → Outcome start lent result → DeservedBy lent refusal →
+      result .verdict ≡ Refused refusal
+  -- what is not refused breaks no rule, and has room
+  pub notRefused : (start : Start) (lent : Call) (result : Left) → Outcome start lent result →
+      ((refusal : Refusal) → ¬ (result .verdict ≡ Refused refusal)) → Accepted lent
+  -- and what breaks no rule, and has room, is never refused
+  pub accepted : (start : Start) (lent : Call) (result : Left) (refusal : Refusal) → Outcome start lent result → Accepted lent →
+      ¬ (result .verdict ≡ Refused refusal)
 
 -- R is "w + J_i if such a w exists and w + J_i ≤ D_i; else 0", where w is "the smallest whole number of at least 1 with demand(i, w) = w".
 -- For J_i stands the latest delay, and in the demand of a more urgent task the latest minus the earliest (document 02, L4).
@@ -59,7 +63,7 @@ pub record AnswerRight (table : Table) (i R : ℕ) : Type 0 where
 abbrev pub x : Start → Table → ℕ → ℕ → ℕ
 x start table i k = term (baseOf table i) (loadsOf (table .tasks) i) (startOf start table i) k
 
--- "Rounds is the smallest k ≥ 1 with x_k = x_(k−1) or x_k + J_i > D_i", "at most D_i − J_i − x0 + 1 when x0 + J_i ≤ D_i, and 1
+-- "Rounds is the smallest k ≥ 1 with x_k = x_(k−1) or x_k + J_i > D_i", "at most D_i − J_i − x0 + 1 when x0 + J_i ≤ D_i, and is 1
 -- otherwise", with the latest delay for J_i and the start used for x0
 pub record RoundsRight (start : Start) (table : Table) (i k : ℕ) : Type 0 where
   pub positive : 1 ≤ k
@@ -79,34 +83,31 @@ ResultRight answers n (Late place) =
     (place .0 < n) × (answers (place .0) ≡ 0) × ((i : ℕ) → i < place .0 → 1 ≤ answers i)
 
 -- "Otherwise words 0 to n−1 of each answer slice are written, answers in the first and rounds in the second, later words stay"
-pub record Written (start : Start) (bytes answers rounds : List ℕ) (verdict : Verdict) (answersLeft roundsLeft : List ℕ) : Type 0 where
-  pub answersRight : (i : ℕ) → i < taskCount bytes → AnswerRight (tableOf bytes) i (wordOf answersLeft i)
-  pub roundsRight : (i : ℕ) → i < taskCount bytes → RoundsRight start (tableOf bytes) i (wordOf roundsLeft i)
-  pub answersLong : length answersLeft ≡ length answers
-  pub roundsLong : length roundsLeft ≡ length rounds
-  pub answersStay : (i : ℕ) → taskCount bytes ≤ i → wordOf answersLeft i ≡ wordOf answers i
-  pub roundsStay : (i : ℕ) → taskCount bytes ≤ i → wordOf roundsLeft i ≡ wordOf rounds i
-  pub result : ResultRight (wordOf answersLeft) (taskCount bytes) verdict
+pub record Written (start : Start) (lent : Call) (result : Left) : Type 0 where
+  pub answersRight : (i : ℕ) → i < taskCount (lent .bytes) → AnswerRight (tableOf (lent .bytes)) i (wordOf (result .answers) i)
+  pub roundsRight : (i : ℕ) → i < taskCount (lent .bytes) → RoundsRight start (tableOf (lent .bytes)) i (wordOf (result .rounds) i)
+  pub answersLong : length (result .answers) ≡ length (lent .answers)
+  pub roundsLong : length (result .rounds) ≡ length (lent .rounds)
+  pub answersStay : (i : ℕ) → taskCount (lent .bytes) ≤ i → wordOf (result .answers) i ≡ wordOf (lent .answers) i
+  pub roundsStay : (i : ℕ) → taskCount (lent .bytes) ≤ i → wordOf (result .rounds) i ≡ wordOf (lent .rounds) i
+  pub verdictRight : ResultRight (wordOf (result .answers)) (taskCount (lent .bytes)) (result .verdict)
 
--- Demand 2, for every table that is not refused.
+-- Demand 2 (SPECIFICATION 8.2), for every table that is not refused.
 abbrev pub Demand2 : Type 0
-Demand2 =
-    (start : Start) (bytes answers rounds : List ℕ) (verdict : Verdict) (answersLeft roundsLeft : List ℕ) →
-    Outcome start bytes answers rounds verdict answersLeft roundsLeft → TableRight bytes → RoomFor bytes (length answers) (length rounds) →
-    Written start bytes answers rounds verdict answersLeft roundsLeft
+Demand2 = (start : Start) (lent : Call) (result : Left) → Outcome start lent result → Accepted lent → Written start lent result
 
--- "show that no second answer satisfies it": the verdict and every word of both slices are determined
+-- These sentences alone leave no second result: two that both satisfy them are the same verdict and the same words.
+abbrev pub OnlyWritten : Type 0
+OnlyWritten = (start : Start) (lent : Call) (result other : Left) → Written start lent result → Written start lent other → result ≡ other
+
+-- "show that no second answer satisfies it": the verdict and every word of both slices are determined, on refusal also
 abbrev pub NoSecondAnswer : Type 0
-NoSecondAnswer =
-    (start : Start) (bytes answers rounds : List ℕ) (verdict other : Verdict) (answersLeft roundsLeft answersOther roundsOther : List ℕ) →
-    Outcome start bytes answers rounds verdict answersLeft roundsLeft → Outcome start bytes answers rounds other answersOther roundsOther →
-    (verdict ≡ other) × (answersLeft ≡ answersOther) × (roundsLeft ≡ roundsOther)
+NoSecondAnswer = (start : Start) (lent : Call) (result other : Left) → Outcome start lent result → Outcome start lent other → result ≡ other
 
--- Demand 3: "With no jitter and no critical sections" (no delay and no row) the word that is left, from either start, is right about
+-- Demand 3 (SPECIFICATION 8.3): where no task has a delay and there is no row, the word that is left, from either start, is right about
 -- every legal run.
 abbrev pub Demand3 : Type 0
 Demand3 =
-    (start : Start) (bytes answers rounds : List ℕ) (verdict : Verdict) (answersLeft roundsLeft : List ℕ) →
-    Outcome start bytes answers rounds verdict answersLeft roundsLeft → TableRight bytes → RoomFor bytes (length answers) (length rounds) →
-    NoDelay (tasksOf bytes) → rowCount bytes ≡ 0 →
-    (i : ℕ) → i < taskCount bytes → Answers (tasksOf bytes) i (wordOf answersLeft i)
+    (start : Start) (lent : Call) (result : Left) → Outcome start lent result → Accepted lent →
+    NoDelay (tasksOf (lent .bytes)) → rowCount (lent .bytes) ≡ 0 →
+    (i : ℕ) → i < taskCount (lent .bytes) → Answers (tasksOf (lent .bytes)) i (wordOf (result .answers) i)

@@ -8,14 +8,14 @@ use lib.ListN.{length}
 use Rattle.model.specs.Lists.{tabulate, keep, wordOf}
 use Rattle.model.specs.Tables.{Task, Row, Table, Load, taskOf, moreUrgent}
 use Rattle.tables.specs.Layout.{byteAt, wordAt, versionOf, statedLength, taskCount, rowCount, tableOf}
-use Rattle.tables.specs.Meaning.{Within, RowsRise, TableRight, RoomFor}
+use Rattle.tables.specs.Meaning.{Within, RowsRise, TableRight}
 use Rattle.equation.specs.Answer.{answer}
 use Rattle.equation.specs.Sequence.{rounds}
 use Rattle.equation.specs.declared.Start.{Start}
 use Rattle.equation.specs.Starts.{startFrom}
-use Rattle.answering.specs.declared.Verdict.{Verdict}
 use Rattle.response.specs.Analysis.{baseOf}
-use Rattle.response.specs.Outcome.{Outcome}
+use Rattle.response.specs.Outcome.{Call, Left, Outcome}
+use Rattle.response.specs.Statements.{Accepted}
 
 -- "then n × 17": record i begins behind five bytes and i records
 abbrev pub recordOne : ℕ → ℕ
@@ -102,9 +102,9 @@ roundsOne start table i =
     rounds (baseOf table i) (jitterLoads table i) (startFrom start (baseOf table i) (jitterLoads table i)) (jitterOf table i) (taskOf (table .tasks) i .deadline)
 
 -- what is left for the task at place i is what document 01's equation gives, the rounds from the start used
-pub record KeptAt (start : Start) (bytes answersLeft roundsLeft : List ℕ) (i : ℕ) : Type 0 where
-  pub answerKept : wordOf answersLeft i ≡ answerOne (tableOne bytes) i
-  pub roundsKept : wordOf roundsLeft i ≡ roundsOne start (tableOne bytes) i
+pub record KeptAt (start : Start) (bytes : List ℕ) (result : Left) (i : ℕ) : Type 0 where
+  pub answerKept : wordOf (result .answers) i ≡ answerOne (tableOne bytes) i
+  pub roundsKept : wordOf (result .rounds) i ≡ roundsOne start (tableOne bytes) i
 
 pub record VersionOneKept : Type 0 where
   -- "Version 1 tables read with earliest 0", for all bytes of version 1
@@ -113,6 +113,5 @@ pub record VersionOneKept : Type 0 where
   pub accepts : (bytes : List ℕ) → versionOf bytes ≡ 1 → RightOne bytes → TableRight bytes
   pub refuses : (bytes : List ℕ) → versionOf bytes ≡ 1 → TableRight bytes → RightOne bytes
   -- "and keep their answers", and their rounds
-  pub keeps : (start : Start) (bytes answers rounds : List ℕ) (verdict : Verdict) (answersLeft roundsLeft : List ℕ) →
-      Outcome start bytes answers rounds verdict answersLeft roundsLeft → TableRight bytes → RoomFor bytes (length answers) (length rounds) →
-      versionOf bytes ≡ 1 → (i : ℕ) → i < taskCount bytes → KeptAt start bytes answersLeft roundsLeft i
+  pub keeps : (start : Start) (lent : Call) (result : Left) → Outcome start lent result → Accepted lent → versionOf (lent .bytes) ≡ 1 →
+      (i : ℕ) → i < taskCount (lent .bytes) → KeptAt start (lent .bytes) result i

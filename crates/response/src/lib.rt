@@ -7,7 +7,7 @@ ghost use Rattle.model.specs.Choice.{both};
 ghost use Rattle.tables.specs.Layout.{taskCount};
 ghost use Rattle.reading.specs.Columns.{recordColumns, rowColumns, Lent, TableHeld};
 ghost use Rattle.response.specs.Verdicts.{codeOf, verdictPlace, packed};
-ghost use Rattle.response.specs.Outcome.{Outcome};
+ghost use Rattle.response.specs.Outcome.{Outcome, lending, leaving};
 ghost use Rattle.response.specs.Packing.{PackedOutcome};
 ghost use Rattle.equation.specs.declared.Start.the-variants.{EveryCost};
 pub use answering::Verdict;
@@ -54,14 +54,14 @@ pub fn pack(verdict: Verdict) -> u64
 // Any bytes and any slices get a verdict. A refusal changes no word; otherwise words 0 to n - 1 of `answers` and `rounds` are
 // written, and later words stay. The rounds are those from the default start.
 pub fn analyse(table: &[u8], answers: &mut [u32], rounds: &mut [u32]) -> Verdict
-    ensures { λ r. ⌜ Outcome EveryCost (now (table .entry)) (now (answers .entry)) (now (rounds .entry)) r (now (answers .exit)) (now (rounds .exit)) ⌝ }
+    ensures { λ r. ⌜ Outcome EveryCost (lending (now (table .entry)) (now (answers .entry)) (now (rounds .entry))) (leaving r (now (answers .exit)) (now (rounds .exit))) ⌝ }
 {
     analyse_from(Start::EveryCost, table, answers, rounds)
 }
 
 // The same, with the rounds from either start (document 02, L5). Verdict and answers do not depend on it.
 pub fn analyse_from(start: Start, table: &[u8], answers: &mut [u32], rounds: &mut [u32]) -> Verdict
-    ensures { λ r. ⌜ Outcome start (now (table .entry)) (now (answers .entry)) (now (rounds .entry)) r (now (answers .exit)) (now (rounds .exit)) ⌝ }
+    ensures { λ r. ⌜ Outcome start (lending (now (table .entry)) (now (answers .entry)) (now (rounds .entry))) (leaving r (now (answers .exit)) (now (rounds .exit))) ⌝ }
 {
     // columns for 32 tasks and 64 rows, the most that any version has: 32 + 2 * 64 bytes and 5 * 32 + 64 words
     let mut bytes = [0u8; 160];
@@ -99,7 +99,7 @@ fn answer(
     requires { ⌜ Lent (now table) 32 (now bytes) (now words) ⌝ }
     requires { ⌜ (taskCount (now table) ≤ length (now answers)) × (taskCount (now table) ≤ length (now rounds)) ⌝ }
     requires { ⌜ TableHeld 1 (now table) (recordColumns 32 (now bytes) (now words)) (rowColumns 32 (now bytes) (now words)) ⌝ }
-    ensures { λ r. ⌜ Outcome start (now (table .entry)) (now (answers .entry)) (now (rounds .entry)) r (now (answers .exit)) (now (rounds .exit)) ⌝ }
+    ensures { λ r. ⌜ Outcome start (lending (now (table .entry)) (now (answers .entry)) (now (rounds .entry))) (leaving r (now (answers .exit)) (now (rounds .exit))) ⌝ }
 {
     let n = count(table[TASK_COUNT_AT]);
     let m = count(table[ROW_COUNT_AT]);
