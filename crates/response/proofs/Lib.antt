@@ -7,3 +7,4 @@ pub mod OnlyWritten
 pub mod Starts
 pub mod VersionOne
 pub mod WorkedTables
+pub mod WorkedBytes

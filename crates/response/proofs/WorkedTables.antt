@@ -19,29 +19,30 @@ use Rattle.equation.specs.declared.Start.the-variants.{EveryCost, OwnCost}
 use Rattle.response.specs.Analysis.{answerOf, roundsOf}
 use Rattle.response.specs.Worked.{Said, nothing, says, Worked, workedTable, workedTables, Gives, WorkedRight, EachRight, WorkedTablesRight}
 
-sameWords : List ℕ → List ℕ → Bool
-sameWords [] [] = true
-sameWords [] (y ∷ ys) = false
-sameWords (x ∷ xs) [] = false
-sameWords (x ∷ xs) (y ∷ ys) = both (eqb x y) (sameWords xs ys)
+-- are two lists the same, element by element?
+unfoldable pub sameBy : {A : Type 0} → (A → A → Bool) → List A → List A → Bool
+sameBy test [] [] = true
+sameBy test [] (y ∷ ys) = false
+sameBy test (x ∷ xs) [] = false
+sameBy test (x ∷ xs) (y ∷ ys) = both (test x y) (sameBy test xs ys)
 
-same-words : (xs ys : List ℕ) → sameWords xs ys ≡ true → xs ≡ ys
-unfolding sameWords
-same-words [] [] p = refl
-same-words [] (y ∷ ys) p = absurd (clash false p refl)
-same-words (x ∷ xs) [] p = absurd (clash false p refl)
-same-words (x ∷ xs) (y ∷ ys) p =
-    let b = both-true (eqb x y) (sameWords xs ys) p in
-    rw (eqb-true x y (b .0), same-words xs ys (b .1))
+pub same-by : {A : Type 0} (test : A → A → Bool) → ((x y : A) → test x y ≡ true → x ≡ y) → (xs ys : List A) → sameBy test xs ys ≡ true → xs ≡ ys
+unfolding sameBy
+same-by test means [] [] p = refl
+same-by test means [] (y ∷ ys) p = absurd (clash false p refl)
+same-by test means (x ∷ xs) [] p = absurd (clash false p refl)
+same-by test means (x ∷ xs) (y ∷ ys) p =
+    let b = both-true (test x y) (sameBy test xs ys) p in
+    rw (means x y (b .0), same-by test means xs ys (b .1))
 
 gives : (ℕ → ℕ) → ℕ → Said → Bool
 gives f n nothing = true
-gives f n (says words) = sameWords (tabulate f n) words
+gives f n (says words) = sameBy eqb (tabulate f n) words
 
 gives-means : (f : ℕ → ℕ) (n : ℕ) (said : Said) → gives f n said ≡ true → Gives f n said
 unfolding gives
 gives-means f n nothing p = tt
-gives-means f n (says words) p = same-words (tabulate f n) words p
+gives-means f n (says words) p = same-by eqb eqb-true (tabulate f n) words p
 
 rightFrom : Worked → Start → Bool
 rightFrom w start = gives (roundsOf start (workedTable w)) (length (w .entries)) (w .rounds start)
@@ -81,7 +82,7 @@ each-right (w ∷ ws) p =
     (right-means w (b .0), each-right ws (b .1))
 
 computed : allRight workedTables ≡ true
-unfolding allRight right rightFrom gives sameWords workedTables tabulate keep sumOf largestOf firstFrom demand term ceiling blockingOf answerOf roundsOf
+unfolding allRight right rightFrom gives sameBy workedTables tabulate keep sumOf largestOf firstFrom demand term ceiling blockingOf answerOf roundsOf
 computed = refl
 
 pub workedTablesRight : WorkedTablesRight

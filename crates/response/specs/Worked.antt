@@ -1,15 +1,22 @@
 -- The worked tables that document 01 marks *, with the ones of document 02's L4 and L5, as rows of one list under one statement.
 -- Assumes nothing.
-use Prim.Native.Nat.{ℕ, suc}
+use Prim.Native.Nat.{ℕ, suc, _≤_}
 use mathlib.Core.Path.{_≡_}
+use mathlib.Core.Bool.{Bool, true}
 use mathlib.Core.List.{List, [], _∷_}
+use lib.Dec.{eqb}
 use lib.ListN.{length}
-use Rattle.model.specs.Lists.{tabulate}
+use Rattle.model.specs.Choice.{pick, both}
+use Rattle.model.specs.Lists.{tabulate, wordOf}
 use Rattle.model.specs.Tables.{Task, Row, Table}
+use Rattle.tables.specs.Layout.{tableOf}
+use Rattle.tables.specs.Meaning.{TableRight}
+use Rattle.encoding.specs.Bytes.{encode}
 use Rattle.blocking.specs.Ceilings.{blockingOf}
 use Rattle.equation.specs.declared.Start.{Start}
 use Rattle.equation.specs.declared.Start.the-variants.{EveryCost, OwnCost}
 use Rattle.response.specs.Analysis.{answerOf, roundsOf}
+use Rattle.response.specs.Outcome.{Left, lending, Outcome}
 
 -- "entries are (T, C, D), with J 0 and no rows unless given"
 pub record Entry : Type 0 where
@@ -115,3 +122,33 @@ EachRight (w ∷ ws) = WorkedRight w × EachRight ws
 -- Every worked table has the blocking, the answers and, from each start, the rounds that the documents give.
 unfoldable pub WorkedTablesRight : Type 0
 WorkedTablesRight = EachRight workedTables
+
+-- J alone is enough where no entry has an earliest delay, so that both versions can hold the table; else version 2 can
+abbrev pub noEarliest : List Entry → Bool
+noEarliest [] = true
+noEarliest (e ∷ es) = both (eqb (e .earliest) 0) (noEarliest es)
+
+abbrev pub versionsOf : Worked → List ℕ
+versionsOf w = pick (noEarliest (w .entries)) (1 ∷ 2 ∷ []) (2 ∷ [])
+
+-- The table's bytes in a version are accepted and read back as it, and what is left for them, from each start, is what is said.
+pub record WorkedBytes (w : Worked) (version : ℕ) : Type 0 where
+  pub accepted : TableRight (encode version (workedTable w))
+  pub readBack : tableOf (encode version (workedTable w)) ≡ workedTable w
+  pub answered : (start : Start) (answers rounds : List ℕ) (result : Left) →
+      Outcome start (lending (encode version (workedTable w)) answers rounds) result →
+      length (w .entries) ≤ length answers → length (w .entries) ≤ length rounds →
+      Gives (wordOf (result .answers)) (length (w .entries)) (w .answers)
+      × Gives (wordOf (result .rounds)) (length (w .entries)) (w .rounds start)
+
+abbrev pub EachVersion : Worked → List ℕ → Type 0
+EachVersion w [] = Unit {0}
+EachVersion w (version ∷ versions) = WorkedBytes w version × EachVersion w versions
+
+abbrev pub EachInBytes : List Worked → Type 0
+EachInBytes [] = Unit {0}
+EachInBytes (w ∷ ws) = EachVersion w (versionsOf w) × EachInBytes ws
+
+-- So the worked tables are about bytes: every one of them, in every version that can hold it.
+unfoldable pub WorkedTablesInBytes : Type 0
+WorkedTablesInBytes = EachInBytes workedTables
