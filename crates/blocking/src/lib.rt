@@ -10,21 +10,21 @@ use model::Priority;
 use model::Ticks;
 use model::larger;
 
-fn larger_priority(a: u8, b: u8) -> u8
-    ensures { λ r. ⌜ r ≡ max a b ⌝ }
+fn more_urgent(a: Priority, b: Priority) -> Priority
+    ensures { λ r. ⌜ r .0 ≡ max (a .0) (b .0) ⌝ }
 {
-    if a < b { b } else { a }
+    if a.0 < b.0 { b } else { a }
 }
 
 // What a row adds: its section, where its task is less urgent and its semaphore's ceiling is at least the own priority.
-fn held(owner: u8, top: u8, longest: u32, own: u8) -> u32
-    ensures { λ r. ⌜ r ≡ on (both (ltb owner own) (leb own top)) longest ⌝ }
+fn held(owner: Priority, top: Priority, longest: Ticks, own: Priority) -> Ticks
+    ensures { λ r. ⌜ r .0 ≡ on (both (ltb (owner .0) (own .0)) (leb (own .0) (top .0))) (longest .0) ⌝ }
 {
-    if own <= owner {
-        return 0;
+    if own.0 <= owner.0 {
+        return Ticks(0);
     }
-    if top < own {
-        return 0;
+    if top.0 < own.0 {
+        return Ticks(0);
     }
     longest
 }
@@ -46,9 +46,9 @@ pub fn ceilings(
     for k in 0..count {
         let semaphore = semaphores[k] as usize;
         let place = places[k] as usize;
-        let priority = priorities[place];
-        owners[k] = priority;
-        found[semaphore] = larger_priority(found[semaphore], priority);
+        let priority = Priority(priorities[place]);
+        owners[k] = priority.0;
+        found[semaphore] = more_urgent(Priority(found[semaphore]), priority).0;
     }
     found
 }
@@ -86,10 +86,15 @@ pub fn blocking(
     requires { ⌜ count ≤ length (now longest) ⌝ }
     ensures { λ r. ⌜ r .0 ≡ largestTo (sectionAt (now (owners .entry)) (now (tops .entry)) (now (longest .entry)) (priority .0)) count ⌝ }
 {
-    let own = priority.0;
-    let mut most: u32 = 0;
+    let mut most = Ticks(0);
     for k in 0..count {
-        most = larger(most, held(owners[k], tops[k], longest[k], own));
+        let section = held(
+            Priority(owners[k]),
+            Priority(tops[k]),
+            Ticks(longest[k]),
+            priority,
+        );
+        most = larger(most, section);
     }
-    Ticks(most)
+    most
 }

@@ -114,11 +114,11 @@ pub fn largest(words: &[u32], n: usize) -> Ticks
     requires { ⌜ n ≤ length (now words) ⌝ }
     ensures { λ r. ⌜ r .0 ≡ largestTo (wordOf (now (words .entry))) n ⌝ }
 {
-    let mut found: u32 = 0;
+    let mut found = Ticks(0);
     for i in 0..n {
-        found = larger(found, words[i]);
+        found = larger(found, Ticks(words[i]));
     }
-    Ticks(found)
+    found
 }
 
 // Plays all n tasks at once, from tick 0 up to the latest deadline, and writes when the first job of each is done. Where no task has

@@ -24,10 +24,10 @@ pub fn mask(place: Place) -> u32
     1u32 << (place.0 as u32)
 }
 
-fn smaller(a: u32, b: u32) -> u32
-    ensures { λ r. ⌜ r ≡ min a b ⌝ }
+fn earlier(a: Ticks, b: Ticks) -> Ticks
+    ensures { λ r. ⌜ r .0 ≡ min (a .0) (b .0) ⌝ }
 {
-    if a < b { a } else { b }
+    if a.0 < b.0 { a } else { b }
 }
 
 // Releases the task at a place, if it is due: its cost is work, its bit is set, and it is due again a period later.
@@ -71,7 +71,7 @@ fn release_due(
     ensures { λ r. ⌜ Leaves n (now (left .entry)) (now (due .entry)) (releasedIn (now (periods .entry)) (now (costs .entry)) n (at .0) (now (left .entry)) (now (due .entry)) ready) (now (left .exit)) (now (due .exit)) (r .ready) (r .next .0) ⌝ }
 {
     let mut word = ready;
-    let mut earliest: u32 = 4294967295;
+    let mut earliest = Ticks(4294967295);
     for p in 0..n {
         word = release_one(
             Ticks(periods[p]),
@@ -82,11 +82,11 @@ fn release_due(
             due,
             word,
         );
-        earliest = smaller(earliest, due[p]);
+        earliest = earlier(earliest, Ticks(due[p]));
     }
     Released {
         ready: word,
-        next: Ticks(earliest),
+        next: earliest,
     }
 }
 

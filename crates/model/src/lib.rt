@@ -9,8 +9,8 @@ pub struct Priority(pub u8);
 
 pub struct Place(pub usize);
 
-pub fn larger(a: u32, b: u32) -> u32
-    ensures { λ r. ⌜ r ≡ max a b ⌝ }
+pub fn larger(a: Ticks, b: Ticks) -> Ticks
+    ensures { λ r. ⌜ r .0 ≡ max (a .0) (b .0) ⌝ }
 {
-    if a < b { b } else { a }
+    if a.0 < b.0 { b } else { a }
 }

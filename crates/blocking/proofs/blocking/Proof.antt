@@ -7,25 +7,25 @@ use Rattle.blocking.proofs.blocking.Statement.{statement}
 use Rattle.blocking.proofs.blocking.Tie as tie
 
 abbrev Inv-loop : tie.InvT-loop
-Inv-loop owners tops longest count own most₀ k₀ most k = Looked owners tops longest count own k most
+Inv-loop owners tops longest count priority most₀ k₀ most k = Looked owners tops longest count (priority .0) k (most .0)
 
 abbrev μ-loop : tie.MeasureT-loop
-μ-loop owners tops longest count own most₀ k₀ most k = count - k
+μ-loop owners tops longest count priority most₀ k₀ most k = count - k
 
 loop-holds : tie.Need-loop-holds Inv-loop μ-loop
 loop-holds c = looked-none _ _ _ _ _
 
-shared-slice-read-held : tie.Need-shared-slice-read-held Inv-loop μ-loop
-shared-slice-read-held c = omega arith
+shared-slice-read-t11 : tie.Need-shared-slice-read-t11 Inv-loop μ-loop
+shared-slice-read-t11 c = omega arith
 
-shared-slice-read-held-2 : tie.Need-shared-slice-read-held-2 Inv-loop μ-loop
-shared-slice-read-held-2 c = omega arith
+shared-slice-read-t14 : tie.Need-shared-slice-read-t14 Inv-loop μ-loop
+shared-slice-read-t14 c = omega arith
 
-mul-held : tie.Need-mul-held Inv-loop μ-loop
-mul-held c = omega arith
+mul-t16 : tie.Need-mul-t16 Inv-loop μ-loop
+mul-t16 c = omega arith
 
-shared-slice-read-held-3 : tie.Need-shared-slice-read-held-3 Inv-loop μ-loop
-shared-slice-read-held-3 c = omega arith
+shared-slice-read-t18 : tie.Need-shared-slice-read-t18 Inv-loop μ-loop
+shared-slice-read-t18 c = omega arith
 
 held-requires : tie.Need-held-requires Inv-loop μ-loop
 held-requires c κs = omega arith
@@ -52,10 +52,10 @@ blocking-spec =
     Inv-loop
     μ-loop
     loop-holds
-    shared-slice-read-held
-    shared-slice-read-held-2
-    mul-held
-    shared-slice-read-held-3
+    shared-slice-read-t11
+    shared-slice-read-t14
+    mul-t16
+    shared-slice-read-t18
     held-requires
     larger-requires
     add-k

@@ -32,17 +32,17 @@ shared-slice-read-place c = omega arith
 cast-place : tie.Need-cast-place Inv-loop μ-loop
 cast-place c = omega (arith, c .shared-slice-known5 .given (c .before .before .before .loop .k))
 
-shared-slice-read-priority : tie.Need-shared-slice-read-priority Inv-loop μ-loop
-shared-slice-read-priority c = c .before .before .before .before .before .before .before .before .before .pre .0 .placesLow (c .before .before .before .before .loop .k) (c .before .before .before .loop-test .taken)
+shared-slice-read-t13 : tie.Need-shared-slice-read-t13 Inv-loop μ-loop
+shared-slice-read-t13 c = c .before .before .before .before .before .before .before .before .before .pre .0 .placesLow (c .before .before .before .before .loop .k) (c .before .before .before .loop-test .taken)
 
 slice-write-owners : tie.Need-slice-write-owners Inv-loop μ-loop
 slice-write-owners c = omega arith
 
-array-read-larger-priority : tie.Need-array-read-larger-priority Inv-loop μ-loop
-array-read-larger-priority c = omega (arith, c .before .before .before .before .before .before .before .before .before .pre .0 .semaphoresLow (c .before .before .before .before .loop .k) (c .before .before .before .loop-test .taken), c .before .before .before .before .loop .inv .0 .long)
+array-read-t13 : tie.Need-array-read-t13 Inv-loop μ-loop
+array-read-t13 c = omega (arith, c .before .before .before .before .before .before .before .before .before .pre .0 .semaphoresLow (c .before .before .before .before .loop .k) (c .before .before .before .loop-test .taken), c .before .before .before .before .loop .inv .0 .long)
 
-larger-priority-requires : tie.Need-larger-priority-requires Inv-loop μ-loop
-larger-priority-requires c κs = omega arith
+more-urgent-requires : tie.Need-more-urgent-requires Inv-loop μ-loop
+more-urgent-requires c κs = omega arith
 
 array-write-found : tie.Need-array-write-found Inv-loop μ-loop
 array-write-found c = omega (arith, c .before .before .before .before .before .before .before .before .before .before .pre .0 .semaphoresLow (c .before .before .before .before .before .loop .k) (c .before .before .before .before .loop-test .taken), c .before .before .before .before .before .loop .inv .0 .long)
@@ -54,19 +54,13 @@ loop-less : tie.Need-loop-less Inv-loop μ-loop
 loop-less c = omega arith
 
 loop-again : tie.Need-loop-again Inv-loop μ-loop
-loop-again c = (
-  raised-more _ _ _ _ _ _ _ (c .before .before .before .before .before .loop .inv .0) (c .before .before .before .before .loop-test .taken) (c .before .before .before .before .before .before .before .before .before .before .pre .0 .semaphoresLow (c .before .before .before .before .before .loop .k) (c .before .before .before .before .loop-test .taken)) (c .larger-priority .ensures),
-  filling-more _ _ _ _ _ _ (c .before .before .before .before .before .loop .inv .1) (c .before .before .before .before .loop-test .taken) refl,
-)
+loop-again c = (raised-more _ _ _ _ _ _ _ (c .before .before .before .before .before .loop .inv .0) (c .before .before .before .before .loop-test .taken) (c .before .before .before .before .before .before .before .before .before .before .pre .0 .semaphoresLow (c .before .before .before .before .before .loop .k) (c .before .before .before .before .loop-test .taken)) (c .more-urgent .ensures), filling-more _ _ _ _ _ _ (c .before .before .before .before .before .loop .inv .1) (c .before .before .before .before .loop-test .taken) refl)
 
 same-length : tie.Need-same-length Inv-loop μ-loop
 same-length c = c .before .loop .inv .1 .long
 
 returns : tie.Need-returns Inv-loop μ-loop
-returns c = (
-  raised-all _ _ _ _ _ _ (c .before .loop .inv .0) (c .loop-test .left),
-  filling-at _ _ _ _ _ (c .before .loop .inv .1) _ (omega (arith, c .before .loop .inv .0 .within, c .loop-test .left)),
-)
+returns c = (raised-all _ _ _ _ _ _ (c .before .loop .inv .0) (c .loop-test .left), filling-at _ _ _ _ _ (c .before .loop .inv .1) _ (omega (arith, c .before .loop .inv .0 .within, c .loop-test .left)))
 
 pub ceilings-spec : {M : Type 1} → statement M
 ceilings-spec =
@@ -79,10 +73,10 @@ ceilings-spec =
     cast-semaphore
     shared-slice-read-place
     cast-place
-    shared-slice-read-priority
+    shared-slice-read-t13
     slice-write-owners
-    array-read-larger-priority
-    larger-priority-requires
+    array-read-t13
+    more-urgent-requires
     array-write-found
     add-k
     loop-less

@@ -9,7 +9,7 @@ use Rattle.machine.proofs.largest.Statement.{statement}
 use Rattle.machine.proofs.largest.Tie as tie
 
 abbrev Inv-loop : tie.InvT-loop
-Inv-loop words n found₀ i₀ found i = (found ≡ largestTo (wordOf words) i) × (i ≤ n)
+Inv-loop words n found₀ i₀ found i = (found .0 ≡ largestTo (wordOf words) i) × (i ≤ n)
 
 abbrev μ-loop : tie.MeasureT-loop
 μ-loop words n found₀ i₀ found i = n - i
@@ -17,11 +17,11 @@ abbrev μ-loop : tie.MeasureT-loop
 loop-holds : tie.Need-loop-holds Inv-loop μ-loop
 loop-holds c = (largest-first _, omega arith)
 
-mul-larger : tie.Need-mul-larger Inv-loop μ-loop
-mul-larger c = omega arith
+mul-t6 : tie.Need-mul-t6 Inv-loop μ-loop
+mul-t6 c = omega arith
 
-shared-slice-read-larger : tie.Need-shared-slice-read-larger Inv-loop μ-loop
-shared-slice-read-larger c = omega (arith, c .before .before .before .before .pre, c .before .loop-test .taken)
+shared-slice-read-t8 : tie.Need-shared-slice-read-t8 Inv-loop μ-loop
+shared-slice-read-t8 c = omega (arith, c .before .before .before .before .pre, c .before .loop-test .taken)
 
 larger-requires : tie.Need-larger-requires Inv-loop μ-loop
 larger-requires c κs = omega arith
@@ -45,8 +45,8 @@ largest-spec =
     Inv-loop
     μ-loop
     loop-holds
-    mul-larger
-    shared-slice-read-larger
+    mul-t6
+    shared-slice-read-t8
     larger-requires
     add-i
     loop-less

@@ -11,7 +11,7 @@ use Rattle.machine.proofs.release.release_due.Tie as tie
 
 abbrev Inv-loop : tie.InvT-loop
 Inv-loop periods costs n at left₀ due₀ ready word₀ earliest₀ p₀ left due word earliest p =
-    Releasing periods costs n (at .0) left₀ due₀ ready p word earliest
+    Releasing periods costs n (at .0) left₀ due₀ ready p word (earliest .0)
     × Filling (leftWith (wordOf costs) (wordOf due₀) (at .0) (wordOf left₀)) n p left₀ left
     × Filling (dueWith (wordOf periods) (wordOf due₀) (at .0)) n p due₀ due
 
@@ -21,11 +21,11 @@ abbrev μ-loop : tie.MeasureT-loop
 loop-holds : tie.Need-loop-holds Inv-loop μ-loop
 loop-holds c = (releasing-none _ _ _ _ _ _ _, filling-none _ _ _ (c .before .before .before .before .pre .1 .leftLong), filling-none _ _ _ (c .before .before .before .before .pre .1 .dueLong))
 
-mul-smaller : tie.Need-mul-smaller Inv-loop μ-loop
-mul-smaller c = omega arith
+mul-t13 : tie.Need-mul-t13 Inv-loop μ-loop
+mul-t13 c = omega arith
 
-shared-slice-read-smaller : tie.Need-shared-slice-read-smaller Inv-loop μ-loop
-shared-slice-read-smaller c = omega (arith, c .before .before .before .before .before .before .before .pre .0 .periodsLong, c .before .loop-test .taken)
+shared-slice-read-t15 : tie.Need-shared-slice-read-t15 Inv-loop μ-loop
+shared-slice-read-t15 c = omega (arith, c .before .before .before .before .before .before .before .pre .0 .periodsLong, c .before .loop-test .taken)
 
 mul-t17 : tie.Need-mul-t17 Inv-loop μ-loop
 mul-t17 c = omega arith
@@ -49,14 +49,14 @@ release-one-requires c κs =
       ),
     )
 
-mul-smaller-2 : tie.Need-mul-smaller-2 Inv-loop μ-loop
-mul-smaller-2 c = omega arith
+mul-t13-2 : tie.Need-mul-t13-2 Inv-loop μ-loop
+mul-t13-2 c = omega arith
 
-slice-read-smaller : tie.Need-slice-read-smaller Inv-loop μ-loop
-slice-read-smaller c = omega (arith, c .before .before .before .before .before .release-one .kept, c .before .before .before .before .before .before .before .before .before .before .before .loop .inv .2 .long, c .before .before .before .before .before .before .before .before .before .before .before .loop .inv .2 .room, c .before .before .before .before .before .before .before .before .before .before .loop-test .taken)
+slice-read-t15 : tie.Need-slice-read-t15 Inv-loop μ-loop
+slice-read-t15 c = omega (arith, c .before .before .before .before .before .release-one .kept, c .before .before .before .before .before .before .before .before .before .before .before .loop .inv .2 .long, c .before .before .before .before .before .before .before .before .before .before .before .loop .inv .2 .room, c .before .before .before .before .before .before .before .before .before .before .loop-test .taken)
 
-smaller-requires : tie.Need-smaller-requires Inv-loop μ-loop
-smaller-requires c κs = omega arith
+earlier-requires : tie.Need-earlier-requires Inv-loop μ-loop
+earlier-requires c κs = omega arith
 
 add-p : tie.Need-add-p Inv-loop μ-loop
 add-p c = omega arith
@@ -71,7 +71,7 @@ loop-again c =
     let dues = c .before .before .before .before .before .before .before .before .before .before .before .before .loop .inv .2 in
     let said = c .before .before .before .before .before .before .release-one .ensures in
     let a = c .before .before .before .before .before .before .before .before .before .before .before .before .before .before .before .before .before .args in (
-      releasing-more (a .periods .now) (a .costs .now) (a .n) (a .at .0) (a .left .now) (a .due .now) (a .ready) (c .before .before .before .before .before .before .before .before .before .before .before .before .loop .p) h _ _ lefts dues _ _ _ _ _ (c .before .before .before .before .before .before .before .before .before .before .before .before .loop .inv .0) (said .1 .0) (said .1 .1) (c .smaller .ensures),
+      releasing-more (a .periods .now) (a .costs .now) (a .n) (a .at .0) (a .left .now) (a .due .now) (a .ready) (c .before .before .before .before .before .before .before .before .before .before .before .before .loop .p) h _ _ lefts dues _ _ _ _ _ (c .before .before .before .before .before .before .before .before .before .before .before .before .loop .inv .0) (said .1 .0) (said .1 .1) (c .earlier .ensures),
       left-more (a .periods .now) (a .costs .now) (a .n) (a .at .0) (a .left .now) (a .due .now) (a .ready) (c .before .before .before .before .before .before .before .before .before .before .before .before .loop .p) h _ _ lefts dues _ (said .0),
       due-more (a .periods .now) (a .costs .now) (a .n) (a .at .0) (a .left .now) (a .due .now) (a .ready) (c .before .before .before .before .before .before .before .before .before .before .before .before .loop .p) h _ _ lefts dues _ (said .1 .0),
     )
@@ -92,14 +92,14 @@ release-due-spec =
     Inv-loop
     μ-loop
     loop-holds
-    mul-smaller
-    shared-slice-read-smaller
+    mul-t13
+    shared-slice-read-t15
     mul-t17
     shared-slice-read-t19
     release-one-requires
-    mul-smaller-2
-    slice-read-smaller
-    smaller-requires
+    mul-t13-2
+    slice-read-t15
+    earlier-requires
     add-p
     loop-less
     loop-again
