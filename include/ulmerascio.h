@@ -1,9 +1,12 @@
-/* ulmerascio.h: the schedulability analysis of document 01, for programs in C and C++.
+/* ulmerascio.h: does every task of a table meet its deadline? For programs in C and C++.
  *
- * The analysis takes the bytes of one task table and two lent slices of 32-bit words. It fills
- * in each task's longest response time and the rounds spent on it, and says whether every task
- * meets its deadline. It covers one processor, preemptive fixed priorities, whole ticks and
- * sporadic tasks. The engine of document 02, L1, comes to the same answers by playing.
+ * The analysis takes the bytes of one task table and two slices (arrays with their lengths) of
+ * 32-bit words that the caller lends it. It writes each task's longest response time, in ticks, and
+ * the rounds, the number of steps that it took to find it, and says whether every task meets its
+ * deadline. It covers one processor, fixed priorities where a more urgent task takes the processor
+ * at once, whole ticks, and sporadic tasks: their jobs come at least a period apart. The engine
+ * comes to the same answers by playing the worst case tick by tick. docs/SPECIFICATION.md has all
+ * the rules and terms.
  *
  * ulmerascio_analyse is in libfirmware.a, ulmerascio_analyse_from_own_cost in libmarking.a and
  * ulmerascio_play in libplayer.a; none of them needs another, and a program may link them all.
@@ -18,10 +21,13 @@
 extern "C" {
 #endif
 
-/* Versions 1 and 2 of the table's form are read. The version, byte 0, decides the size s of a
- * task's record: 17 bytes in version 1, whose records have one jitter J, and 21 in version 2, whose
- * records have an earliest and a latest delay in place of J (document 02, L4). A version 1 table is
+/* A table is a head of 5 bytes, then a record for each of n tasks, then m section rows, which say
+ * for how long a task holds a semaphore. Versions 1 and 2 are read. The version, byte 0, decides
+ * the size s of a task's record: 17 bytes in version 1, whose records have one jitter J, and 21 in
+ * version 2, whose records have an earliest and a latest delay in place of J. A version 1 table is
  * read as one with earliest delay 0 and latest delay J.
+ *
+ * A record has a priority, a period T, a cost C, a deadline D, and the jitter or the delays.
  *
  * Limits of both versions; the longest table of version 1 has 933 bytes. */
 #define ULMERASCIO_MOST_TASKS 32
@@ -76,9 +82,10 @@ enum ulmerascio_refusal_number {
  * to n - 1 of rounds get the rounds spent on them. Later words of both slices stay as they were.
  * If the table is refused, no word of either slice is changed.
  *
- * A task's rounds start at its cost and blocking plus one cost of every more urgent task (document
- * 02, L5). They are at most D - J - start + 1, with the latest delay for J, and 1 if the start with
- * it is above D.
+ * Rounds are counted along a sequence that rises to the answer. It starts at the task's cost and
+ * blocking (the longest time for which a less urgent task can hold it up) plus one cost of every
+ * more urgent task. The rounds are at most D - J - start + 1, with the latest delay for J, and 1 if
+ * the start with it is above D.
  *
  * answers_len and rounds_len are counted in words. Each pointer must be good for its length:
  * table for reading table_len bytes, answers and rounds for reading and writing answers_len and
@@ -89,14 +96,14 @@ uint64_t ulmerascio_analyse(const uint8_t *table, size_t table_len,
                             uint32_t *answers, size_t answers_len,
                             uint32_t *rounds, size_t rounds_len);
 
-/* The same with document 01's start: a task's rounds start at its cost and blocking alone.
+/* The same with the older start: the sequence starts at the task's cost and blocking alone.
  *
  * Verdict, answers and the words that stay are always those of ulmerascio_analyse. The rounds are
- * those that document 01 prints, 1, 2 and 5 for its fifth table where ulmerascio_analyse gives 1, 1
- * and 4; each is the same or one more, and the bound above holds with this start.
+ * the same or one more: 1, 2 and 5 for examples/fifth.table, where ulmerascio_analyse gives 1, 1
+ * and 4. The bound above holds with this start.
  *
  * Choose ulmerascio_analyse, which takes no more rounds to the same answers, unless the rounds are
- * to be held against document 01's or others that are counted from a task's own cost.
+ * to be held against others that are counted from a task's own cost.
  *
  * What is said above of lengths and pointers holds here too.
  */
