@@ -1,4 +1,10 @@
--- The same answers over the slices that hold a decoded table, and what those slices are asked to hold.
+-- The answers over the slices that hold a decoded table, and what those slices are asked to hold.
+--
+-- Answers and rounds have two forms. The one to believe is `answerOf` and `roundsOf` of a table (crates/response/specs/Analysis.antt), with
+-- the table's own blocking and its more urgent tasks; the public contract and every demand speak of that. The form here, `answerIn` and
+-- `roundsIn`, says the same of columns of numbers, in which the more urgent tasks are those that stand before. It exists for the contract
+-- of `answer_all`, which knows no bytes and no table. That both agree for the columns of every accepted table is proved in
+-- crates/response/proofs/DecodedLaws.antt.
 -- Assumes nothing.
 use Prim.Native.Nat.{ℕ, _+_, _≤_, _<_}
 use mathlib.Core.List.{List}
@@ -7,7 +13,7 @@ use mathlib.Core.Path.{_≡_}
 use Rattle.model.specs.Lists.{largestTo, filled}
 use Rattle.model.specs.Tables.{Load}
 use Rattle.equation.specs.Answer.{answer}
-use Rattle.equation.specs.Sequence.{rounds}
+use Rattle.equation.specs.Sequence as sequence
 use Rattle.equation.specs.Slices.{loads, LoadsFit}
 use Rattle.equation.specs.declared.Start.{Start}
 use Rattle.equation.specs.Starts.{startFrom}
@@ -54,7 +60,7 @@ answerIn d i = answer (baseIn d i) (loadsIn d i) (getD (d .latest) i 0) (getD (d
 
 unfoldable pub roundsIn : Start → Decoded → ℕ → ℕ
 roundsIn start d i =
-    rounds (baseIn d i) (loadsIn d i) (startFrom start (baseIn d i) (loadsIn d i)) (getD (d .latest) i 0) (getD (d .deadlines) i 0)
+    sequence.rounds (baseIn d i) (loadsIn d i) (startFrom start (baseIn d i) (loadsIn d i)) (getD (d .latest) i 0) (getD (d .deadlines) i 0)
 
 -- n tasks and the rows stand in the slices, each number within its limit
 pub record DecodedFits (d : Decoded) (n : ℕ) : Type 0 where
@@ -70,8 +76,16 @@ pub record DecodedFits (d : Decoded) (n : ℕ) : Type 0 where
   pub latestHigh : (i : ℕ) → i < n → getD (d .latest) i 0 ≤ 1000000
   pub longestHigh : (k : ℕ) → k < d .rows → getD (d .longest) k 0 ≤ 1000000
 
+-- a lent slice: its words before a call and after it
+pub record Slice : Type 0 where
+  pub before : List ℕ
+  pub after : List ℕ
+
+abbrev pub slice : (before after : List ℕ) → Slice
+slice before after = record { before = before; after = after }
+
 -- the result, and the first n words of both slices, are those of the decoded table
-pub record Answered (start : Start) (d : Decoded) (n : ℕ) (verdict : Verdict) (answers answersLeft rounds roundsLeft : List ℕ) : Type 0 where
+pub record Answered (start : Start) (d : Decoded) (n : ℕ) (verdict : Verdict) (answers rounds : Slice) : Type 0 where
   pub verdictIs : verdict ≡ resultOf (answerIn d) n
-  pub answersAre : answersLeft ≡ filled (answerIn d) n answers
-  pub roundsAre : roundsLeft ≡ filled (roundsIn start d) n rounds
+  pub answersAre : answers .after ≡ filled (answerIn d) n (answers .before)
+  pub roundsAre : rounds .after ≡ filled (roundsIn start d) n (rounds .before)

@@ -4,7 +4,7 @@ ghost use Prim.Native.Nat.{_≤_};
 ghost use lib.ListN.{length};
 ghost use Rattle.model.specs.Choice.{pick};
 ghost use Rattle.answering.specs.Results.{isSchedulable, lateIf};
-ghost use Rattle.answering.specs.Slices.{decoded, DecodedFits, Answered};
+ghost use Rattle.answering.specs.Slices.{decoded, DecodedFits, slice, Answered};
 use blocking::blocking;
 use equation::Start;
 use equation::first_term;
@@ -57,7 +57,7 @@ pub fn answer_all(
 ) -> Verdict
     requires { ⌜ DecodedFits (decoded (now priorities) (now periods) (now costs) (now deadlines) (now spreads) (now latest) (now owners) (now tops) (now longest) m) n ⌝ }
     requires { ⌜ (n ≤ length (now answers)) × (n ≤ length (now rounds)) ⌝ }
-    ensures { λ r. ⌜ Answered start (decoded (now (priorities .entry)) (now (periods .entry)) (now (costs .entry)) (now (deadlines .entry)) (now (spreads .entry)) (now (latest .entry)) (now (owners .entry)) (now (tops .entry)) (now (longest .entry)) m) n r (now (answers .entry)) (now (answers .exit)) (now (rounds .entry)) (now (rounds .exit)) ⌝ }
+    ensures { λ r. ⌜ Answered start (decoded (now (priorities .entry)) (now (periods .entry)) (now (costs .entry)) (now (deadlines .entry)) (now (spreads .entry)) (now (latest .entry)) (now (owners .entry)) (now (tops .entry)) (now (longest .entry)) m) n r (slice (now (answers .entry)) (now (answers .exit))) (slice (now (rounds .entry)) (now (rounds .exit))) ⌝ }
 {
     let mut verdict = Verdict::Schedulable;
     let mut urgent = Ticks(0);

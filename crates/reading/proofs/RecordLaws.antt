@@ -24,7 +24,7 @@ use Rattle.tables.specs.Refusals.{isClean, offset, fieldsCheck}
 use Rattle.tables.specs.Fields.{periodField, costField, deadlineField, earliestField, latestField, recordOrder, recordRefusal}
 use Rattle.tables.specs.Rules.{between, priorityFits, longestDeadline, recordTest}
 use Rattle.tables.specs.Checks.{recordCheck, recordsCheck, recordsRead}
-use Rattle.reading.specs.Reading.{HeadRead, delayAt, recordFault}
+use Rattle.reading.specs.Reading.{HeadRead, delayAt, atRecord, recordFault}
 use Rattle.tables.proofs.LayoutLaws.{next-start, record-inside, start-small}
 use Rattle.tables.proofs.FieldLaws.{clean-only, stops-at, goes-on, goes-through, tests-fail, tests-passed}
 use Rattle.tables.proofs.MeaningLaws.{between-means, between-holds}
@@ -44,7 +44,7 @@ earliest-right earliest latest p =
 pub delay-refused : (span : ℕ) (task : Task) (layout : Layout) (start highest : ℕ) → between 1 1000000 (task .period) ≡ true →
     between 1 1000000 (task .cost) ≡ true → between 1 (longestDeadline span (task .period)) (task .deadline) ≡ true →
     between (task .earliest) 1000000 (task .latest) ≡ false → (at : ℕ) → at ≡ delayAt (layout .delays) (task .earliest) →
-    Refused (NumberOutOfRange (offset (start + at))) ≡ recordFault span task layout start highest
+    Refused (NumberOutOfRange (offset (start + at))) ≡ recordFault (atRecord layout start span highest) task
 unfolding recordTest
 delay-refused span task layout start highest period cost deadline wrong at e =
     elim (ltb? 1000000 (task .earliest)) [
@@ -66,7 +66,7 @@ pub record Subtracts (task : Task) : Type 0 where
   pub priority : 1 ≤ task .priority
 
 pub clean-subtracts : (span : ℕ) (task : Task) (layout : Layout) (start highest : ℕ) (found : Check) →
-    found ≡ recordFault span task layout start highest → isClean found ≡ true → Subtracts task
+    found ≡ recordFault (atRecord layout start span highest) task → isClean found ≡ true → Subtracts task
 unfolding recordTest
 clean-subtracts span task layout start highest found e clean =
     let passed = tests-passed _ (recordRefusal layout start) recordOrder (sym e ∙ clean-only found clean) in
@@ -144,15 +144,15 @@ module _ (span : ℕ) (bytes : List ℕ) (layout : Layout) (n : ℕ) where
               let back : suc k - 1 ≡ k = omega arith in
               rw (e, back, ne-eqb (suc k) 0 (λ (z : suc k ≡ 0). omega arith)) (below (priorityIn bytes i) (priorityIn bytes k))
 
-      module _ (found : Check) (e : found ≡ recordFault span task layout start highest) where
+      module _ (found : Check) (e : found ≡ recordFault (atRecord layout start span highest) task) where
         check-is : recordCheck span bytes i ≡ found
         unfolding recordCheck
         check-is =
             sym
             (e
-            ∙ ap (λ (t : Task). recordFault span t layout start highest) task-is
-            ∙ ap (λ (s : ℕ). recordFault span (taskAt bytes i) layout s highest) (r .here)
-            ∙ ap (λ (l : Layout). recordFault span (taskAt bytes i) l (recordStart l i) highest) (r .head .decided)
+            ∙ ap (λ (t : Task). recordFault (atRecord layout start span highest) t) task-is
+            ∙ ap (λ (s : ℕ). recordFault (atRecord layout s span highest) (taskAt bytes i)) (r .here)
+            ∙ ap (λ (l : Layout). recordFault (atRecord l (recordStart l i) span highest) (taskAt bytes i)) (r .head .decided)
             ∙ ap
             (λ (b : Bool).
             fieldsCheck (recordTest span (taskAt bytes i) b) (recordRefusal (layoutOf bytes) (recordStart (layoutOf bytes) i)) recordOrder)

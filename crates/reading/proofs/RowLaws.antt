@@ -26,7 +26,7 @@ use Rattle.tables.specs.Fields.{rowOrder, rowRefusal}
 use Rattle.tables.specs.Rules.{between, rowInOrder, rowAfter, rowTest}
 use Rattle.tables.specs.Checks.{rowCheck, rowsCheck, rowsRead}
 use Rattle.reading.specs.Columns.{Holds}
-use Rattle.reading.specs.Reading.{HeadRead, rowKey, rowFault}
+use Rattle.reading.specs.Reading.{HeadRead, rowKey, atRow, rowFault}
 use Rattle.tables.proofs.LayoutLaws.{start-small}
 use Rattle.tables.proofs.FieldLaws.{stops-at, goes-on, goes-through}
 use Rattle.tables.proofs.MeaningLaws.{between-means}
@@ -91,9 +91,9 @@ row-same n start {cost} {cost′} {inOrder} {inOrder′} row costs orders =
 pub costs-long : {n : ℕ} {f : ℕ → ℕ} {costs held : List ℕ} → costs ≡ held → Holds held n f → n ≤ length costs
 costs-long {n} e h = subst (λ (words : List ℕ). n ≤ length words) (sym e) (h .long)
 
-pub fault-of : (row : Row) (start n before : ℕ) (costs held : List ℕ) {checked : Check} → checked ≡ rowFault row start n costs before → costs ≡ held →
-    checked ≡ rowFault row start n held before
-fault-of row start n before costs held found e = found ∙ ap (λ (words : List ℕ). rowFault row start n words before) e
+pub fault-of : (row : Row) (start n before : ℕ) (costs held : List ℕ) {checked : Check} → checked ≡ rowFault (atRow start n costs before) row → costs ≡ held →
+    checked ≡ rowFault (atRow start n held before) row
+fault-of row start n before costs held found e = found ∙ ap (λ (words : List ℕ). rowFault (atRow start n words before) row) e
 
 module _ (bytes : List ℕ) (n m : ℕ) (costs : List ℕ) where
   pub scanning-none : (layout : Layout) → HeadRead bytes layout n → m ≡ rowCount bytes → Holds costs n (costIn bytes) →
@@ -145,11 +145,11 @@ module _ (bytes : List ℕ) (n m : ℕ) (costs : List ℕ) where
             (key-order (rowAt bytes j) (rowAt bytes k) (b j refl) semaphore-small)
 
     -- what the code finds in the row is what the check of row k finds
-    fault-same : rowFault row start n costs before ≡ rowCheck bytes k
+    fault-same : rowFault (atRow start n costs before) row ≡ rowCheck bytes k
     unfolding rowCheck
     fault-same =
-        ap (λ (r : Row). rowFault r start n costs before) as-row
-        ∙ ap (λ (o : ℕ). rowFault (rowAt bytes k) o n costs before) here
+        ap (λ (r : Row). rowFault (atRow start n costs before) r) as-row
+        ∙ ap (λ (o : ℕ). rowFault (atRow o n costs before) (rowAt bytes k)) here
         ∙ row-same n (rowStart (layoutOf bytes) (taskCount bytes) k) (rowAt bytes k) (λ inside. s .held .read (placeIn bytes k) inside) order-test
         ∙ ap
         (λ (t : ℕ).
@@ -157,7 +157,7 @@ module _ (bytes : List ℕ) (n m : ℕ) (costs : List ℕ) where
         (rowRefusal (rowStart (layoutOf bytes) (taskCount bytes) k)) rowOrder)
         (s .head .counted)
 
-    module _ (checked : Check) (found : checked ≡ rowFault row start n costs before) where
+    module _ (checked : Check) (found : checked ≡ rowFault (atRow start n costs before) row) where
       pub row-wrong : isClean checked ≡ false → (checked ≡ rowsCheck bytes) × (rowsRead bytes ≡ k)
       unfolding rowsCheck
       row-wrong wrong =

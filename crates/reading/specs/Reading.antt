@@ -1,4 +1,11 @@
 -- How a record or a row in the code is a task or a row, what is found in it, and what the readers are told of the head.
+--
+-- What is found in a record or a row has two forms. The one to believe stands in crates/tables/specs: the rules of each field (Meaning.antt)
+-- and the refusal that a broken one deserves (Deserved.antt), by the bytes of the whole table; Checks.antt has the same as tests,
+-- `recordCheck` and `rowCheck`. The form here, `recordFault` and `rowFault`, is what the code has at hand while it reads: the record's own
+-- numbers, and in place of the record or row before one number, the highest priority that is left or the key of the row before. It exists
+-- for the contracts of `records::check` and `rows::check` alone. That both are the same is proved in proofs/RecordLaws.antt and
+-- RowLaws.antt, and the contract of `reading::read` speaks of the first only.
 -- Assumes nothing.
 use Prim.Native.Nat.{ℕ, _+_, _*_}
 use mathlib.Core.Path.{_≡_}
@@ -40,10 +47,21 @@ taskFrom r =
 abbrev pub delayAt : DelayFields → ℕ → ℕ
 delayAt fields earliest = pick (ltb 1000000 earliest) earliestAt (latestAt fields)
 
--- what is found in a record that begins at `start`, with the highest priority that it may have
-abbrev pub recordFault : ℕ → Task → Layout → ℕ → ℕ → Check
-recordFault span task layout start highest =
-    fieldsCheck (recordTest span task (between 1 highest (task .priority))) (recordRefusal layout start) recordOrder
+-- where a record stands and what it is held to: its layout, its first byte, the periods that its deadline may span, and the highest
+-- priority that it may have
+pub record AtRecord : Type 0 where
+  pub layout : Layout
+  pub start : ℕ
+  pub span : ℕ
+  pub highest : ℕ
+
+abbrev pub atRecord : (layout : Layout) (start span highest : ℕ) → AtRecord
+atRecord layout start span highest = record { layout = layout; start = start; span = span; highest = highest }
+
+-- what is found in a record there
+abbrev pub recordFault : AtRecord → Task → Check
+recordFault there task =
+    fieldsCheck (recordTest (there .span) task (between 1 (there .highest) (task .priority))) (recordRefusal (there .layout) (there .start)) recordOrder
 
 abbrev pub rowOf : RowRecord → Row
 rowOf r = record { place = r .place .0; semaphore = r .semaphore; longest = r .longest .0 }
@@ -52,7 +70,17 @@ rowOf r = record { place = r .place .0; semaphore = r .semaphore; longest = r .l
 abbrev pub rowKey : Row → ℕ
 rowKey row = row .place * 256 + row .semaphore
 
--- what is found in a row that begins at `start`, with the costs at hand and the key of the row before
-abbrev pub rowFault : Row → ℕ → ℕ → List ℕ → ℕ → Check
-rowFault row start n costs before =
-    fieldsCheck (rowTest n (getD costs (row .place) 0) (ltb before (rowKey row)) row) (rowRefusal start) rowOrder
+-- where a row stands and what it is held to: its first byte, the number of tasks, their costs, and the key of the row before
+pub record AtRow : Type 0 where
+  pub start : ℕ
+  pub tasks : ℕ
+  pub costs : List ℕ
+  pub before : ℕ
+
+abbrev pub atRow : (start tasks : ℕ) (costs : List ℕ) (before : ℕ) → AtRow
+atRow start tasks costs before = record { start = start; tasks = tasks; costs = costs; before = before }
+
+-- what is found in a row there
+abbrev pub rowFault : AtRow → Row → Check
+rowFault there row =
+    fieldsCheck (rowTest (there .tasks) (getD (there .costs) (row .place) 0) (ltb (there .before) (rowKey row)) row) (rowRefusal (there .start)) rowOrder

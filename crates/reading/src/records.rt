@@ -6,7 +6,7 @@ ghost use Rattle.tables.specs.Layout.{Sound, latestAt, earliestFrom, recordFrom
 ghost use Rattle.tables.specs.Rules.{longestDeadline};
 ghost use Rattle.tables.specs.Checks.{recordsCheck, recordsRead};
 ghost use Rattle.reading.specs.Columns.{recordColumns, rowColumns, recordIn, rowIn, Lent, Filled};
-ghost use Rattle.reading.specs.Reading.{HeadRead, taskFrom, delayAt, recordFault};
+ghost use Rattle.reading.specs.Reading.{HeadRead, taskFrom, delayAt, atRecord, recordFault};
 use model::Priority;
 use model::Ticks;
 use tables::COST_AT;
@@ -108,7 +108,7 @@ fn delay_at(fields: DelayFields, earliest: Ticks) -> usize
 // 02, L3). The first that is wrong is refused at its own first byte. An earliest that is at most a right latest is right.
 pub fn check(task: TaskRecord, layout: Layout, span: u32, at: usize, highest: Priority) -> Check
     requires { ⌜ (span ≤ 4) × (at < 65536) ⌝ }
-    ensures { λ r. ⌜ r ≡ recordFault span (taskFrom task) layout at (highest .0) ⌝ }
+    ensures { λ r. ⌜ r ≡ recordFault (atRecord layout at span (highest .0)) (taskFrom task) ⌝ }
 {
     if !within(1, MOST_TICKS, task.period.0) {
         return Check::Refused(Refusal::NumberOutOfRange(Offset(at + PERIOD_AT)));

@@ -5,7 +5,7 @@ ghost use lib.ListN.{length};
 ghost use Rattle.tables.specs.Layout.{rowFrom, rowCount, costIn};
 ghost use Rattle.tables.specs.Checks.{rowsCheck, rowsRead};
 ghost use Rattle.reading.specs.Columns.{costColumn, recordColumns, rowColumns, recordIn, rowIn, Lent, Filled, Holds};
-ghost use Rattle.reading.specs.Reading.{HeadRead, rowOf, rowKey, rowFault};
+ghost use Rattle.reading.specs.Reading.{HeadRead, rowOf, rowKey, atRow, rowFault};
 use model::Place;
 use model::Ticks;
 use tables::Check;
@@ -62,7 +62,7 @@ fn check(row: RowRecord, at: usize, n: usize, costs: &[u32], before: u32) -> Che
     requires { ⌜ at < 65536 ⌝ }
     requires { ⌜ (row .place .0 < 256) × (row .semaphore < 256) ⌝ }
     requires { ⌜ n ≤ length (now costs) ⌝ }
-    ensures { λ r. ⌜ r ≡ rowFault (rowOf row) at n (now (costs .entry)) before ⌝ }
+    ensures { λ r. ⌜ r ≡ rowFault (atRow at n (now (costs .entry)) before) (rowOf row) ⌝ }
 {
     let place = row.place.0;
     if n <= place {

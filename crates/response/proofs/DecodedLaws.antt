@@ -24,7 +24,7 @@ use Rattle.blocking.specs.Ceilings.{section, blockingOf}
 use Rattle.blocking.specs.Slices.{ownerAt, topAt, sectionAt, RowsHeld}
 use Rattle.blocking.proofs.CeilingLaws.{blocking-agrees}
 use Rattle.response.specs.Analysis.{baseOf, answerOf, roundsOf}
-use Rattle.answering.specs.Slices.{Decoded, decoded, answerIn, roundsIn, DecodedFits, Answered}
+use Rattle.answering.specs.Slices.{Decoded, decoded, answerIn, roundsIn, DecodedFits, slice, Answered}
 use Rattle.answering.specs.declared.Verdict.{Verdict}
 use Rattle.response.specs.Outcome.{lending, leaving, Outcome}
 use Rattle.response.proofs.OutcomeLaws.{answered}
@@ -179,7 +179,7 @@ module _ (bytes : List ℕ) (records : RecordColumn → List ℕ) (rows : RowCol
     -- the answers of the columns are the outcome for the bytes
     pub table-answered : (start : Start) (answers rounds : List ℕ) → (n ≤ length answers) × (n ≤ length rounds) → (v : Verdict)
         (answersLeft roundsLeft : List ℕ) →
-        Answered start (decodedFrom records rows owners tops m) n v answers answersLeft rounds roundsLeft →
+        Answered start (decodedFrom records rows owners tops m) n v (slice answers answersLeft) (slice rounds roundsLeft) →
         Outcome start (lending bytes answers rounds) (leaving v answersLeft roundsLeft)
     table-answered start answers rounds room v answersLeft roundsLeft a =
         answered start bytes answers rounds (held .clean) n tasksCounted (room .0) (room .1) (decodedFrom records rows owners tops m) v

@@ -23,7 +23,7 @@ use Rattle.answering.specs.declared.Verdict.the-variants as verdict
 use Rattle.answering.specs.Results.{isSchedulable, resultOf, lateIf}
 use Rattle.response.specs.Analysis.{answerOf, roundsOf}
 use Rattle.response.specs.Outcome.{lending, leaving, Outcome, verdictOf, answersAfter, roundsAfter}
-use Rattle.answering.specs.Slices.{Decoded, answerIn, roundsIn, Answered}
+use Rattle.answering.specs.Slices.{Decoded, answerIn, roundsIn, slice, Answered}
 
 module _ (start : Start) (bytes answers rounds : List ℕ) where
   -- a refusal leaves both slices as they were
@@ -49,7 +49,7 @@ module _ (start : Start) (bytes answers rounds : List ℕ) where
 
       -- answers that agree with the table's, task by task, are the outcome
       pub answered : (d : Decoded) (v : Verdict) (answersLeft roundsLeft : List ℕ) →
-          Answered start d n v answers answersLeft rounds roundsLeft →
+          Answered start d n v (slice answers answersLeft) (slice rounds roundsLeft) →
           ((i : ℕ) → i < n → answerIn d i ≡ answerOf (tableOf bytes) i) → ((i : ℕ) → i < n → roundsIn start d i ≡ roundsOf start (tableOf bytes) i) →
           Outcome start (lending bytes answers rounds) (leaving v answersLeft roundsLeft)
       unfolding verdictOf answersAfter roundsAfter
