@@ -4,3 +4,4 @@ pub mod RuleLaws
 pub mod ByteLaws
 pub mod Encoding
 pub mod Shapes
+pub mod Examples
