@@ -22,7 +22,9 @@ use Rattle.answering.specs.declared.Verdict.{Verdict}
 use Rattle.answering.specs.declared.Verdict.the-variants as verdict
 use Rattle.answering.specs.Results.{isSchedulable, resultOf, lateIf}
 use Rattle.response.specs.Analysis.{answerOf, roundsOf}
-use Rattle.response.specs.Outcome.{lending, leaving, Outcome, verdictOf, answersAfter, roundsAfter}
+use Rattle.response.specs.Outcome.{Call, Left, lending, leaving, Outcome, verdictOf, answersAfter, roundsAfter}
+use Rattle.response.specs.Verdicts.{packed}
+use Rattle.response.specs.Packing.{PackedOutcome}
 use Rattle.answering.specs.Slices.{Decoded, answerIn, roundsIn, slice, Answered}
 
 module _ (start : Start) (bytes answers rounds : List ℕ) where
@@ -64,3 +66,9 @@ module _ (start : Start) (bytes answers rounds : List ℕ) where
             answersAre = rw accepted (a .answersAre ∙ filled-all (answerIn d) (answerOf (tableOf bytes)) answers answer);
             roundsAre = rw accepted (a .roundsAre ∙ filled-all (roundsIn start d) (roundsOf start (tableOf bytes)) rounds round);
           }
+
+-- and with the verdict in one number it is what C sees
+pub packed-is : (start : Start) (lent : Call) (result : Left) → Outcome start lent result → (number : ℕ) → number ≡ packed (result .verdict) →
+    PackedOutcome start (lent .bytes) (lent .answers) (lent .rounds) number (result .answers) (result .rounds)
+packed-is start lent result o number e =
+    record { verdictIs = e ∙ ap packed (o .verdictIs); answersAre = o .answersAre; roundsAre = o .roundsAre }

@@ -1,8 +1,7 @@
 -- `response::packed_from` meets its contract: it packs the verdict of `analyse_from`, whose place is small.
 -- Assumes nothing.
-use mathlib.Core.Path.{_∙_, ap}
 use Rattle.response.proofs.PlaceLaws.{verdict-place}
-use Rattle.response.specs.Verdicts.{packed}
+use Rattle.response.proofs.OutcomeLaws.{packed-is}
 use borrow.Author.Needs.{needs}
 use Rattle.response.proofs.packed_from.Statement.{statement}
 use Rattle.response.proofs.packed_from.Tie as tie
@@ -11,13 +10,7 @@ pack-requires : tie.Need-pack-requires
 pack-requires c κs = rw (c .before .before .before .before .analyse-from .ensures .verdictIs) (verdict-place _ _ _)
 
 returns : tie.Need-returns
-returns c =
-    let e = c .before .before .before .before .before .analyse-from .ensures in
-    record {
-      verdictIs = c .pack .ensures ∙ ap packed (e .verdictIs);
-      answersAre = e .answersAre;
-      roundsAre = e .roundsAre;
-    }
+returns c = packed-is _ _ _ (c .before .before .before .before .before .analyse-from .ensures) _ (c .pack .ensures)
 
 pub packed-from-spec : {M : Type 1} → statement M
 packed-from-spec =
