@@ -26,7 +26,7 @@ use Rattle.runs.specs.Statement.{responseOf}
 use Rattle.runs.specs.Synchronous.{synchronous, workLeft}
 use Rattle.runs.proofs.TickLaws.{fresh, servedPlace, work-none, work-next, work-serves, work-idle, first-done}
 use Rattle.runs.proofs.Together.{first-job}
-use Rattle.runs.proofs.Demand3.{synchronousIsWorst}
+use Rattle.runs.proofs.EquationRight.{synchronousIsWorst}
 use Rattle.runs.proofs.Compute.{scheduleExists}
 use Rattle.engine.specs.Run.{periodsOf, costsOf, engineAfter, engineServes, engineAnswer, EveryTick, FirstJobDone, PlayedIsAnswer}
 
