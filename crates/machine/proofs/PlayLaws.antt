@@ -185,9 +185,9 @@ module _ (periods costs : List ℕ) (n : ℕ) where
                     ]
               ]
 
-          pub told-more : (now : List ℕ) → now ≡ set answers place write → now ≡ filled (told (t + 1)) n old
-          told-more now stored =
-              rw add-one
+          pub told-more : (u : ℕ) → u ≡ t + 1 → (now : List ℕ) → now ≡ set answers place write → now ≡ filled (told u) n old
+          told-more u one now stored =
+              rw (one, add-one)
               (stored
               ∙ ap (λ (words : List ℕ). set words place write) are
               ∙ filled-set (told t) (told (suc t)) n place write old room inside written
@@ -226,25 +226,26 @@ module _ (periods costs : List ℕ) (n : ℕ) where
                 ap (filled g n) are ∙ filled-again f g n old room ∙ filled-same g h n old alike
 
         -- where work is left, the play goes on
-        pub playing-more : t < limit → ¬ (rest ≡ 0) → Playing limit left₀ due₀ (t + 1) leftNow dueNow rest again
-        playing-more more some =
-            rw add-one (record {
+        pub playing-more : (u : ℕ) → u ≡ t + 1 → t < limit → ¬ (rest ≡ 0) → Playing limit left₀ due₀ u leftNow dueNow rest again
+        playing-more u one more some =
+            rw (one, add-one) (record {
               early = more;
               holds = leaves-next;
               busy = search-on quiet t (ne-eqb (engine (suc t) .ready) 0 (λ z. some (leaves-next .readyIs ∙ z))) ∙ play .busy;
             })
 
         -- where none is left, it stops, and it is the first tick with that
-        pub stops-quiet : t < limit → rest ≡ 0 → PlayLeaves periods costs n limit left₀ due₀ leftNow dueNow (t + 1) rest again
+        pub stops-quiet : (u : ℕ) → u ≡ t + 1 → t < limit → rest ≡ 0 →
+            PlayLeaves periods costs n limit left₀ due₀ leftNow dueNow u rest again
         unfolding ticksPlayed
-        stops-quiet more all =
+        stops-quiet u one more all =
             let first : firstFrom quiet 1 limit ≡ suc t = finds quiet 1 limit (suc t) (record {
               passes = eq-eqb (engine (suc t) .ready) 0 (sym (leaves-next .readyIs) ∙ all);
               low = omega arith;
               high = omega arith;
               first = λ v low high. missed quiet 1 t (omega arith) (play .busy) v low (omega arith);
             }) in
-            rw add-one (record { ticksAre = rw (first, ne-eqb (suc t) 0 (omega arith)) refl; stateIs = leaves-next })
+            rw (one, add-one) (record { ticksAre = rw (first, ne-eqb (suc t) 0 (omega arith)) refl; stateIs = leaves-next })
 
         -- and all is told
         pub told-all : (deadlines old now : List ℕ) →

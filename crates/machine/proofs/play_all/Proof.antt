@@ -2,7 +2,7 @@
 -- Assumes nothing.
 use Prim.Native.Nat.{_-_}
 use native.Mathlib.Omega.{arith}
-use mathlib.Core.Path.{_≡_}
+use mathlib.Core.Path.{_≡_, refl}
 use Rattle.model.specs.Lists.{filled, wordOf}
 use Rattle.machine.proofs.ReportLaws.{reported}
 use Rattle.machine.proofs.PlayLaws.{Playing, playing-none, left-long, due-long, state-held, has-next, playing-more, stops-quiet, stops-late, told-none, told-more, told-all, told-late, told-over, told-long}
@@ -60,9 +60,9 @@ returns : tie.Need-returns Inv-loop μ-loop
 returns c =
     let g = c .before .before .before .before .before .before .before .before .before .before .before .before .before .before .before .before .before .before .before .before .before .before .before .before .pre in
     let e = c .before .before .before .before .before .before .before .step .ensures in
-    let more = told-more _ _ _ (g .0) _ (g .1 .1 .1 .0) _ _ (g .1 .1 .0) _ _ _ _ _ (c .before .before .before .before .before .before .before .before .before .before .before .before .before .loop .inv .0) _ _ _ (g .1 .0) (omega (arith, c .before .before .before .before .before .before .before .before .before .before .before .before .before .before .before .before .clear .kept, g .1 .1 .1 .1)) _ (e .1 .0) (c .before .before .before .before .before .before .before .before .before .before .before .before .before .loop .inv .1) _ (e .1 .1) in (
-      stops-quiet _ _ _ (g .0) _ (g .1 .1 .1 .0) _ _ (g .1 .1 .0) _ _ _ _ _ (c .before .before .before .before .before .before .before .before .before .before .before .before .before .loop .inv .0) _ _ _ _ (e .0) (c .before .before .before .before .before .before .before .before .before .before .before .if1 .taken) (c .if2 .taken),
-      told-over _ _ _ _ _ (g .1 .1 .1 .1) (c .before .before .before .before .before .before .before .before .before .before .before .before .before .before .before .before .clear .ensures) (told-all _ _ _ (g .0) _ (g .1 .1 .1 .0) _ _ (g .1 .1 .0) _ _ _ _ _ (c .before .before .before .before .before .before .before .before .before .before .before .before .before .loop .inv .0) _ _ _ _ (e .0) (c .before .before .before .before .before .before .before .before .before .before .before .before .before .before .before .before .before .before .before .before .before .before .before .before .args .deadlines .now) _ _ more (c .before .before .before .before .before .before .before .before .before .before .before .if1 .taken) (c .if2 .taken)),
+    let more = told-more _ _ _ (g .0) _ (g .1 .1 .1 .0) _ _ (g .1 .1 .0) _ _ _ _ _ (c .before .before .before .before .before .before .before .before .before .before .before .before .before .loop .inv .0) _ _ _ (g .1 .0) (omega (arith, c .before .before .before .before .before .before .before .before .before .before .before .before .before .before .before .before .clear .kept, g .1 .1 .1 .1)) _ (e .1 .0) (c .before .before .before .before .before .before .before .before .before .before .before .before .before .loop .inv .1) _ refl _ (e .1 .1) in (
+      stops-quiet _ _ _ (g .0) _ (g .1 .1 .1 .0) _ _ (g .1 .1 .0) _ _ _ _ _ (c .before .before .before .before .before .before .before .before .before .before .before .before .before .loop .inv .0) _ _ _ _ (e .0) _ (omega arith) (omega (arith, c .before .before .before .before .before .before .before .before .before .before .before .if1 .taken)) (omega (arith, c .if2 .taken)),
+      told-over _ _ _ _ _ (g .1 .1 .1 .1) (c .before .before .before .before .before .before .before .before .before .before .before .before .before .before .before .before .clear .ensures) (told-all _ _ _ (g .0) _ (g .1 .1 .1 .0) _ _ (g .1 .1 .0) _ _ _ _ _ (c .before .before .before .before .before .before .before .before .before .before .before .before .before .loop .inv .0) _ _ _ _ (e .0) (c .before .before .before .before .before .before .before .before .before .before .before .before .before .before .before .before .before .before .before .before .before .before .before .before .args .deadlines .now) _ _ more (omega (arith, c .before .before .before .before .before .before .before .before .before .before .before .if1 .taken)) (omega (arith, c .if2 .taken))),
     )
 
 loop-less : tie.Need-loop-less Inv-loop μ-loop
@@ -72,8 +72,8 @@ loop-again : tie.Need-loop-again Inv-loop μ-loop
 loop-again c =
     let g = c .before .before .before .before .before .before .before .before .before .before .before .before .before .before .before .before .before .before .before .before .before .before .before .before .pre in
     let e = c .before .before .before .before .before .before .before .step .ensures in (
-      playing-more _ _ _ (g .0) _ (g .1 .1 .1 .0) _ _ (g .1 .1 .0) _ _ _ _ _ (c .before .before .before .before .before .before .before .before .before .before .before .before .before .loop .inv .0) _ _ _ _ (e .0) (c .before .before .before .before .before .before .before .before .before .before .before .if1 .taken) (c .if2 .left),
-      told-more _ _ _ (g .0) _ (g .1 .1 .1 .0) _ _ (g .1 .1 .0) _ _ _ _ _ (c .before .before .before .before .before .before .before .before .before .before .before .before .before .loop .inv .0) _ _ _ (g .1 .0) (omega (arith, c .before .before .before .before .before .before .before .before .before .before .before .before .before .before .before .before .clear .kept, g .1 .1 .1 .1)) _ (e .1 .0) (c .before .before .before .before .before .before .before .before .before .before .before .before .before .loop .inv .1) _ (e .1 .1),
+      playing-more _ _ _ (g .0) _ (g .1 .1 .1 .0) _ _ (g .1 .1 .0) _ _ _ _ _ (c .before .before .before .before .before .before .before .before .before .before .before .before .before .loop .inv .0) _ _ _ _ (e .0) _ (omega arith) (omega (arith, c .before .before .before .before .before .before .before .before .before .before .before .if1 .taken)) (omega (arith, c .if2 .left)),
+      told-more _ _ _ (g .0) _ (g .1 .1 .1 .0) _ _ (g .1 .1 .0) _ _ _ _ _ (c .before .before .before .before .before .before .before .before .before .before .before .before .before .loop .inv .0) _ _ _ (g .1 .0) (omega (arith, c .before .before .before .before .before .before .before .before .before .before .before .before .before .before .before .before .clear .kept, g .1 .1 .1 .1)) _ (e .1 .0) (c .before .before .before .before .before .before .before .before .before .before .before .before .before .loop .inv .1) _ (omega arith) _ (e .1 .1),
     )
 
 same-length-4 : tie.Need-same-length-4 Inv-loop μ-loop
@@ -95,8 +95,8 @@ same-length-6 c =
 returns-2 : tie.Need-returns-2 Inv-loop μ-loop
 returns-2 c =
     let g = c .before .before .before .before .before .before .before .before .before .before .before .before .before .pre in (
-      stops-late _ _ _ (g .0) _ (g .1 .1 .1 .0) _ _ (g .1 .1 .0) _ _ _ _ _ (c .before .before .loop .inv .0) (c .if1 .left),
-      told-over _ _ _ _ _ (g .1 .1 .1 .1) (c .before .before .before .before .before .clear .ensures) (told-late _ _ _ (g .0) _ (g .1 .1 .1 .0) _ _ (g .1 .1 .0) _ _ _ _ _ (c .before .before .loop .inv .0) (c .before .before .before .before .before .before .before .before .before .before .before .before .before .args .deadlines .now) _ _ (c .before .before .loop .inv .1) (c .if1 .left)),
+      stops-late _ _ _ (g .0) _ (g .1 .1 .1 .0) _ _ (g .1 .1 .0) _ _ _ _ _ (c .before .before .loop .inv .0) (omega (arith, c .if1 .left)),
+      told-over _ _ _ _ _ (g .1 .1 .1 .1) (c .before .before .before .before .before .clear .ensures) (told-late _ _ _ (g .0) _ (g .1 .1 .1 .0) _ _ (g .1 .1 .0) _ _ _ _ _ (c .before .before .loop .inv .0) (c .before .before .before .before .before .before .before .before .before .before .before .before .before .args .deadlines .now) _ _ (c .before .before .loop .inv .1) (omega (arith, c .if1 .left))),
     )
 
 pub play-all-spec : {M : Type 1} → statement M
