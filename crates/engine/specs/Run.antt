@@ -31,6 +31,10 @@ engineAfter tasks t = after (periodsOf tasks) (costsOf tasks) (length tasks) t
 abbrev pub engineServes : List Task → ℕ → ℕ
 engineServes tasks t = placeServed (periodsOf tasks) (costsOf tasks) (length tasks) t
 
+-- how many ticks it plays where at most `limit` are played
+abbrev pub engineTicks : List Task → ℕ → ℕ
+engineTicks tasks limit = ticksPlayed (periodsOf tasks) (costsOf tasks) (length tasks) limit
+
 -- its answer for the task at place i
 abbrev pub engineAnswer : List Task → ℕ → ℕ
 engineAnswer tasks i = played (periodsOf tasks) (costsOf tasks) (length tasks) (deadlinesOf tasks) i
