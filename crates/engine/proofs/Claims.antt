@@ -6,14 +6,15 @@ use mathlib.Core.Path.{_≡_, refl, sym, _∙_, ap}
 use mathlib.Core.Bool.{true}
 use mathlib.Core.Logic.{inl, inr}
 use mathlib.Core.List.{List}
-use lib.Dec.{eqb, leb}
+use lib.Dec.{eqb, leb, ltb}
 use lib.ListN.{length}
 use borrow.Author.Tests.{eqb-true, eq-eqb, le-leb}
-use Rattle.model.specs.Lists.{largestTo}
+use Rattle.model.specs.Choice.{both, on}
+use Rattle.model.specs.Lists.{largestTo, wordOf}
 use Rattle.model.specs.Tables.{Task}
-use Rattle.model.proofs.Tests.{bool?, clash, both-true, both-pass}
+use Rattle.model.proofs.Tests.{bool?, ltb?, clash, both-true, both-pass}
 use Rattle.model.proofs.Lists.{largest-low, largest-high}
-use Rattle.model.proofs.Filling.{filled-same}
+use Rattle.model.proofs.Filling.{filled-same, filled-word}
 use Rattle.model.proofs.First.{first-same}
 use Rattle.tables.specs.declared.Refusal.{Refusal}
 use Rattle.tables.specs.declared.Refusal.the-variants.{NotPlayable}
@@ -26,7 +27,10 @@ use Rattle.tables.specs.Checks.{roomCheck, tableCheck, tableCheckSpanning}
 use Rattle.tables.specs.Meaning.{TableRight, RoomFor}
 use Rattle.tables.proofs.LayoutLaws.{layout-sound}
 use Rattle.tables.proofs.CheckLaws.{table-deserved, table-gives, table-right, table-clean}
+use Rattle.machine.specs.Machine.{after, bitOf}
+use Rattle.machine.proofs.SameLaws.{Same}
 use Rattle.runs.specs.Jobs.{NoDelay}
+use Rattle.runs.specs.Synchronous.{synchronous, workLeft}
 use Rattle.answering.specs.declared.Verdict.the-variants as verdict
 use Rattle.answering.specs.Results.{isSchedulable, lateIf, lateAt, resultOf}
 use Rattle.response.specs.Verdicts.{verdictPlace}
@@ -37,11 +41,11 @@ use Rattle.response.specs.Statements.{Accepted}
 use Rattle.response.proofs.PlaceLaws.{result-place}
 use Rattle.response.proofs.TableLaws.{task-is, tasks-count, tasks-fit}
 use Rattle.response.proofs.Demands.{refused-by, result-cases, answers-kept, verdict-given, plain-answer, answers-filled, result-is}
-use Rattle.engine.specs.Run.{engineAnswer}
+use Rattle.engine.specs.Run.{engineAfter, engineAnswer, AsInRun}
 use Rattle.engine.specs.Outcome.{isPlain, playCheck, playVerdict, playWords}
-use Rattle.engine.specs.Statements.{Plain, PlayDeserved, PlayRefusals, TableEveryTick, PlaysEquation, PlaysAsAnalysis, NoSecondPlay}
+use Rattle.engine.specs.Statements.{Plain, PlayDeserved, PlayRefusals, TableEveryTick, CodeEveryTick, PlaysEquation, PlaysAsAnalysis, NoSecondPlay}
 use Rattle.engine.proofs.RunLaws.{everyTick, playedIsAnswer}
-use Rattle.engine.proofs.PlayedLaws.{table-decides, not-plain, plain-clean}
+use Rattle.engine.proofs.PlayedLaws.{table-decides, not-plain, plain-clean, right, same-state}
 
 -- the test for a plain table passes exactly where the table is plain
 module _ (bytes : List ℕ) where
@@ -160,6 +164,27 @@ few bytes right =
 
 pub tableEveryTick : TableEveryTick
 tableEveryTick bytes right = everyTick (tasksOf bytes) (tasks-fit bytes (right .records)) (few bytes right)
+
+pub codeEveryTick : CodeEveryTick
+codeEveryTick bytes periods costs deadlines latest held limit left due leftNow dueNow t ready next leaves ticks s law h =
+    record {
+      work = λ p isTask.
+          let inside : p < taskCount bytes = omega (arith, tasks-count bytes) in
+          filled-word (after (wordOf periods) (wordOf costs) (taskCount bytes) t .left) (taskCount bytes) left leftNow (leaves .stateIs .leftIs) p inside
+          ∙ same .left p inside ∙ inRun .work p isTask;
+      bits = λ p. ap (λ (word : ℕ). bitOf word p) (leaves .stateIs .readyIs ∙ same .ready) ∙ inRun .ready p ∙ bit p;
+    }
+  where
+    same : Same (taskCount bytes) (after (wordOf periods) (wordOf costs) (taskCount bytes) t) (engineAfter (tasksOf bytes) t)
+    same = same-state bytes periods costs deadlines latest held (taskCount bytes) refl t
+
+    inRun : AsInRun (tasksOf bytes) ticks s t
+    inRun = tableEveryTick bytes (right bytes periods costs deadlines latest held) ticks s law t h
+
+    bit : (p : ℕ) →
+        on (both (ltb p (length (tasksOf bytes))) (ltb 0 (engineAfter (tasksOf bytes) t .left p))) 1
+        ≡ on (both (ltb p (length (tasksOf bytes))) (ltb 0 (workLeft (synchronous (tasksOf bytes) ticks) s t p))) 1
+    bit p = elim (ltb? p (length (tasksOf bytes))) [ inl l ↦ rw (inRun .work p (l .1)) | inr l ↦ rw (l .0) ]
 
 module _ (bytes : List ℕ) (right : TableRight bytes) (plain : Plain bytes) where
   -- the tasks of a plain table have no delay

@@ -2,7 +2,7 @@
 -- Assumes nothing.
 use Prim.Native.Nat.{ℕ, _+_, _≤_, _<_}
 use native.Mathlib.Omega.{arith}
-use mathlib.Core.Path.{_≡_, refl, sym, _∙_, ap}
+use mathlib.Core.Path.{_≡_, refl, sym, _∙_, ap, subst}
 use mathlib.Core.Bool.{false, true}
 use mathlib.Core.List.{List}
 use lib.Dec.{eqb}
@@ -10,7 +10,7 @@ use lib.ListN.{length}
 use borrow.Author.Tests.{eq-eqb, ne-eqb, lt-leb}
 use Rattle.model.specs.Lists.{filled, largestTo, wordOf}
 use Rattle.model.specs.Tables.{Task}
-use Rattle.model.proofs.Lists.{largest-same}
+use Rattle.model.proofs.Lists.{largest-same, largest-low, largest-high}
 use Rattle.model.proofs.Filling.{filled-same, filled-word}
 use Rattle.model.proofs.Tests.{both-fail, both-pass}
 use Rattle.model.proofs.First.{first-none, first-on, first-stop, first-same}
@@ -25,15 +25,15 @@ use Rattle.tables.specs.Meaning.{TableRight}
 use Rattle.tables.proofs.LayoutLaws.{layout-sound}
 use Rattle.tables.proofs.CheckLaws.{read-right}
 use Rattle.tables.proofs.OrderLaws.{read-clean, read-decides, room-decides, all-pass}
-use Rattle.machine.specs.Machine.{played}
+use Rattle.machine.specs.Machine.{after, played, upTo}
 use Rattle.machine.specs.Slices.{TasksHeld, DeadlinesHeld}
-use Rattle.machine.proofs.SameLaws.{played-same}
+use Rattle.machine.proofs.SameLaws.{Same, after-same, played-same}
 use Rattle.answering.specs.declared.Verdict.{Verdict}
 use Rattle.answering.specs.declared.Verdict.the-variants as verdict
 use Rattle.answering.specs.Results.{isSchedulable, lateAt, resultOf}
 use Rattle.reading.specs.Columns.{RecordColumn, periodColumn, costColumn, deadlineColumn, latestColumn, RowColumn, TableHeld}
 use Rattle.response.proofs.TableLaws.{task-is, tasks-count}
-use Rattle.engine.specs.Run.{engineAnswer, periodsOf, costsOf, deadlinesOf}
+use Rattle.engine.specs.Run.{engineAfter, engineAnswer, periodsOf, costsOf, deadlinesOf}
 use Rattle.engine.specs.Outcome.{Played, isPlain, playCheck, playVerdict, playWords}
 use Rattle.engine.specs.Held.{NumbersHeld}
 
@@ -112,14 +112,35 @@ module _ (bytes periods costs deadlines latest : List ℕ) (held : NumbersHeld b
     delay-is =
         largest-same (wordOf latest) (latestIn bytes) n (λ p h. held .latestHeld .read p (inside h)) ∙ ap (largestTo (latestIn bytes)) counted
 
-    -- the play of the columns is the play of the table's tasks
-    same-answer : (i : ℕ) → i < n → played (wordOf periods) (wordOf costs) n (wordOf deadlines) i ≡ engineAnswer (tasksOf bytes) i
-    same-answer i h =
-        played-same (wordOf periods) (wordOf costs) (periodsOf (tasksOf bytes)) (costsOf (tasksOf bytes)) n
-        (λ p l. held .periodsHeld .read p (inside l) ∙ sym (ap (λ (t : Task). t .period) (task-is bytes p (inside l))))
-        (λ p l. held .costsHeld .read p (inside l) ∙ sym (ap (λ (t : Task). t .cost) (task-is bytes p (inside l))))
-        (tasks-held .few) (tasks-held .costLow) (wordOf deadlines) (deadlinesOf (tasksOf bytes)) i h
-        (held .deadlinesHeld .read i (inside h) ∙ sym (ap (λ (t : Task). t .deadline) (task-is bytes i (inside h))))
+    -- no deadline is past 1,000,000
+    pub limit-high : (limit : ℕ) → limit ≡ largestTo (wordOf deadlines) n → limit ≤ 1000000
+    limit-high limit e =
+        rw e (largest-high (wordOf deadlines) n 1000000
+        (λ p h. omega (arith, deadlines-held .high p h, tasks-held .periodHigh p h)))
+
+    -- the numbers of the columns are those of the table's tasks
+    same-period : (p : ℕ) → p < n → wordOf periods p ≡ periodsOf (tasksOf bytes) p
+    same-period p h = held .periodsHeld .read p (inside h) ∙ sym (ap (λ (t : Task). t .period) (task-is bytes p (inside h)))
+
+    same-cost : (p : ℕ) → p < n → wordOf costs p ≡ costsOf (tasksOf bytes) p
+    same-cost p h = held .costsHeld .read p (inside h) ∙ sym (ap (λ (t : Task). t .cost) (task-is bytes p (inside h)))
+
+    -- so the engine holds the same for both after every tick
+    pub same-state : (t : ℕ) → Same n (after (wordOf periods) (wordOf costs) n t) (engineAfter (tasksOf bytes) t)
+    same-state t =
+        subst (λ (m : ℕ). Same n (after (wordOf periods) (wordOf costs) n t) (after (periodsOf (tasksOf bytes)) (costsOf (tasksOf bytes)) m t))
+        (counted ∙ sym (tasks-count bytes))
+        (after-same (wordOf periods) (wordOf costs) (periodsOf (tasksOf bytes)) (costsOf (tasksOf bytes)) n same-period same-cost
+        (tasks-held .few) (tasks-held .costLow) t)
+
+    -- the play of the columns up to the latest deadline is the play of the table's tasks
+    same-answer : (limit i : ℕ) → limit ≡ largestTo (wordOf deadlines) n → i < n →
+        played (wordOf periods) (wordOf costs) n (upTo limit (wordOf deadlines)) i ≡ engineAnswer (tasksOf bytes) i
+    same-answer limit i e h =
+        let within : upTo limit (wordOf deadlines) i ≡ wordOf deadlines i = omega (arith, e, largest-low (wordOf deadlines) n i h) in
+        played-same (wordOf periods) (wordOf costs) (periodsOf (tasksOf bytes)) (costsOf (tasksOf bytes)) n same-period same-cost
+        (tasks-held .few) (tasks-held .costLow) (upTo limit (wordOf deadlines)) (deadlinesOf (tasksOf bytes)) i h
+        (within ∙ held .deadlinesHeld .read i (inside h) ∙ sym (ap (λ (t : Task). t .deadline) (task-is bytes i (inside h))))
         ∙ ap (λ (m : ℕ). played (periodsOf (tasksOf bytes)) (costsOf (tasksOf bytes)) m (deadlinesOf (tasksOf bytes)) i)
         (counted ∙ sym (tasks-count bytes))
 
@@ -147,11 +168,12 @@ module _ (bytes periods costs deadlines latest : List ℕ) (held : NumbersHeld b
             (ne-eqb (largestTo (latestIn bytes) (taskCount bytes)) 0 (λ e. some (delay-is ∙ e)))))
 
         -- what has neither is played
-        pub all-played : rowCount bytes ≡ 0 → largestTo (wordOf latest) n ≡ 0 → (left : List ℕ) (v : Verdict) →
-            left ≡ filled (played (wordOf periods) (wordOf costs) n (wordOf deadlines)) n answers → v ≡ resultOf (wordOf left) n →
-            Played bytes answers v left
+        pub all-played : rowCount bytes ≡ 0 → largestTo (wordOf latest) n ≡ 0 → (limit : ℕ) (left : List ℕ) (v : Verdict) →
+            limit ≡ largestTo (wordOf deadlines) n →
+            left ≡ filled (played (wordOf periods) (wordOf costs) n (upTo limit (wordOf deadlines))) n answers →
+            v ≡ resultOf (wordOf left) n → Played bytes answers v left
         unfolding playVerdict playWords
-        all-played bare calm left v are result =
+        all-played bare calm limit left v latestIs are result =
             let accepted =
             plain-clean bytes (length answers) clean
             (both-pass (eq-eqb (rowCount bytes) 0 bare) (eq-eqb (largestTo (latestIn bytes) (taskCount bytes)) 0 (sym delay-is ∙ calm))) in
@@ -162,12 +184,14 @@ module _ (bytes periods costs deadlines latest : List ℕ) (held : NumbersHeld b
                   ∙ first-same isSchedulable verdict.Schedulable (lateAt (wordOf left)) (lateAt (engineAnswer (tasksOf bytes))) n
                   (λ i h.
                   ap (λ (x : ℕ). lateAt (λ k. x) i)
-                  (filled-word (played (wordOf periods) (wordOf costs) n (wordOf deadlines)) n answers left are i h ∙ same-answer i h))
+                  (filled-word (played (wordOf periods) (wordOf costs) n (upTo limit (wordOf deadlines))) n answers left are i h
+                  ∙ same-answer limit i latestIs h))
                   ∙ ap (resultOf (engineAnswer (tasksOf bytes))) counted);
               answersAre =
                   rw accepted
                   (are
-                  ∙ filled-same (played (wordOf periods) (wordOf costs) n (wordOf deadlines)) (engineAnswer (tasksOf bytes)) n answers same-answer
+                  ∙ filled-same (played (wordOf periods) (wordOf costs) n (upTo limit (wordOf deadlines))) (engineAnswer (tasksOf bytes)) n answers
+                  (λ i h. same-answer limit i latestIs h)
                   ∙ ap (λ (m : ℕ). filled (engineAnswer (tasksOf bytes)) m answers) counted);
             }
 

@@ -12,12 +12,13 @@ use lib.Dec.{eqb}
 use lib.ListN.{length}
 use borrow.Author.Tests.{eq-eqb, ne-eqb}
 use Rattle.model.specs.Choice.{on}
+use Rattle.model.specs.Search.{firstFrom}
 use Rattle.model.specs.Tables.{Task, taskOf, loadsOf}
-use Rattle.model.proofs.Tests.{eqb?}
-use Rattle.model.proofs.Search.{finds, none}
+use Rattle.model.proofs.Tests.{eqb?, clash}
+use Rattle.model.proofs.Search.{found, finds, none, missed}
 use Rattle.equation.specs.Rounding.{ceilDiv}
 use Rattle.equation.proofs.Laws.{roundingUp, answerMeans}
-use Rattle.machine.specs.Machine.{State, isDue, isDone, played}
+use Rattle.machine.specs.Machine.{State, isDue, isDone, played, isQuiet, ticksPlayed}
 use Rattle.machine.proofs.MachineLaws.{inTick, first-held, left-step, due-is, ready-bits, next-none, next-is}
 use Rattle.runs.specs.Jobs.{Job, jobOf, TasksFit, NoDelay}
 use Rattle.runs.specs.Schedule.{Service, idle, serves, Schedule, LegalSchedule}
@@ -26,9 +27,9 @@ use Rattle.runs.specs.Statement.{responseOf}
 use Rattle.runs.specs.Synchronous.{synchronous, workLeft}
 use Rattle.runs.proofs.TickLaws.{fresh, servedPlace, work-none, work-next, work-serves, work-idle, first-done}
 use Rattle.runs.proofs.Together.{first-job}
-use Rattle.runs.proofs.Demand3.{synchronousIsWorst}
+use Rattle.runs.proofs.EquationRight.{synchronousIsWorst}
 use Rattle.runs.proofs.Compute.{scheduleExists}
-use Rattle.engine.specs.Run.{periodsOf, costsOf, engineAfter, engineServes, engineAnswer, EveryTick, FirstJobDone, PlayedIsAnswer}
+use Rattle.engine.specs.Run.{periodsOf, costsOf, engineAfter, engineServes, engineAnswer, EveryTick, EveryLimit, FirstJobDone, PlayedIsAnswer}
 
 -- a multiple of d that is not before n, and less than d after it, is n rounded up
 rounds-to : (n d k : ℕ) → 1 ≤ d → n ≤ k * d → k * d < n + d → ceilDiv n d ≡ k
@@ -129,6 +130,44 @@ module _ (tasks : List Task) (fit : TasksFit tasks) where
         ap (λ (state : State). state .left p) (first-held (periodsOf tasks) (costsOf tasks) (length tasks))
         ∙ sym (work-none tasks fit ticks s law p)
     same-work (suc t) h p isTask = same-next t h (same-work t (omega arith)) p isTask
+
+module _ (period cost : ℕ → ℕ) (n : ℕ) where
+  abbrev quiet : ℕ → Bool
+  quiet = isQuiet period cost n
+
+  -- a play that finds no quiet tick goes to its limit, and one that finds one stops there
+  plays-all : (limit : ℕ) → firstFrom quiet 1 limit ≡ 0 → ticksPlayed period cost n limit ≡ limit
+  unfolding ticksPlayed
+  plays-all limit nothing = rw nothing
+
+  plays-some : (limit : ℕ) → ¬ (firstFrom quiet 1 limit ≡ 0) → ticksPlayed period cost n limit ≡ firstFrom quiet 1 limit
+  unfolding ticksPlayed
+  plays-some limit some = rw (ne-eqb (firstFrom quiet 1 limit) 0 some)
+
+  -- no tick before where a play stops is quiet
+  plays-busy : (limit v : ℕ) → 1 ≤ v → v < ticksPlayed period cost n limit → quiet v ≡ false
+  plays-busy limit v low h =
+      elim (ℕ-discrete (firstFrom quiet 1 limit) 0) [
+        | yes nothing ↦ missed quiet 1 limit (omega arith) nothing v low (omega (arith, plays-all limit nothing))
+        | no some ↦ found quiet 1 limit (omega arith) (omega arith) .first v low (omega (arith, plays-some limit some))
+      ]
+
+  every-limit : (limit t : ℕ) → t ≤ ticksPlayed period cost n limit → ticksPlayed period cost n t ≡ t
+  every-limit limit t h =
+      elim (ℕ-discrete (firstFrom quiet 1 t) 0) [
+        | yes nothing ↦ plays-all t nothing
+        | no some ↦
+            let stop = found quiet 1 t (omega arith) (omega arith) in
+            elim (ℕ-discrete (firstFrom quiet 1 t) t) [
+              | yes e ↦ plays-some t some ∙ e
+              | no d ↦
+                  absurd (clash (quiet (firstFrom quiet 1 t)) (stop .passes)
+                  (plays-busy limit (firstFrom quiet 1 t) (stop .low) (omega (arith, stop .high))))
+            ]
+      ]
+
+pub everyLimit : EveryLimit
+everyLimit = every-limit
 
 pub everyTick : EveryTick
 everyTick tasks fit few ticks s law t h =

@@ -6,8 +6,9 @@ use mathlib.Core.List.{List}
 use lib.Dec.{ltb}
 use lib.ListN.{length}
 use Rattle.model.specs.Choice.{both, on}
+use Rattle.model.specs.Lists.{wordOf}
 use Rattle.model.specs.Tables.{Task, taskOf}
-use Rattle.machine.specs.Machine.{State, after, bitOf, placeServed, played}
+use Rattle.machine.specs.Machine.{State, after, bitOf, placeServed, played, ticksPlayed}
 use Rattle.runs.specs.Jobs.{jobOf, TasksFit, NoDelay}
 use Rattle.runs.specs.Schedule.{Schedule, serves, idle, Finished, LegalSchedule}
 use Rattle.runs.specs.Statement.{responseOf}
@@ -29,6 +30,10 @@ engineAfter tasks t = after (periodsOf tasks) (costsOf tasks) (length tasks) t
 -- the place that it serves in tick t
 abbrev pub engineServes : List Task → ℕ → ℕ
 engineServes tasks t = placeServed (periodsOf tasks) (costsOf tasks) (length tasks) t
+
+-- how many ticks it plays where at most `limit` are played
+abbrev pub engineTicks : List Task → ℕ → ℕ
+engineTicks tasks limit = ticksPlayed (periodsOf tasks) (costsOf tasks) (length tasks) limit
 
 -- its answer for the task at place i
 abbrev pub engineAnswer : List Task → ℕ → ℕ
@@ -52,6 +57,18 @@ abbrev pub EveryTick : Type 0
 EveryTick =
     (tasks : List Task) → TasksFit tasks → length tasks ≤ 32 →
     (ticks : ℕ) (s : Schedule) → LegalSchedule tasks ticks (synchronous tasks ticks) s → (t : ℕ) → t ≤ ticks → AsInRun tasks ticks s t
+
+-- What a slice and a word hold beside that run after t ticks: the work left at each place, and a bit for each task that has some.
+pub record HeldAsInRun (tasks : List Task) (ticks : ℕ) (s : Schedule) (t : ℕ) (left : List ℕ) (ready : ℕ) : Type 0 where
+  pub work : (p : ℕ) → p < length tasks → wordOf left p ≡ workLeft (synchronous tasks ticks) s t p
+  pub bits : (p : ℕ) →
+      bitOf ready p ≡ on (both (ltb p (length tasks)) (ltb 0 (workLeft (synchronous tasks ticks) s t p))) 1
+
+-- A play of at most t ticks plays t, for each t up to the number of ticks of any longer play: so a contract that speaks of where a play
+-- stops, whatever its limit is, speaks of every tick.
+abbrev pub EveryLimit : Type 0
+EveryLimit =
+    (period cost : ℕ → ℕ) (n limit t : ℕ) → t ≤ ticksPlayed period cost n limit → ticksPlayed period cost n t ≡ t
 
 -- Up to the deadline no work is left at a place exactly where its first job is finished.
 pub record IsFinished (tasks : List Task) (ticks : ℕ) (s : Schedule) (i j x : ℕ) : Type 0 where

@@ -12,6 +12,7 @@ use Rattle.tables.specs.declared.Refusal.the-variants.{NotPlayable}
 use Rattle.tables.specs.Layout.{taskCount, rowCount, tasksOf, tableOf, earliestIn, latestIn}
 use Rattle.tables.specs.Meaning.{TableRight, RoomFor}
 use Rattle.tables.specs.Deserved.{Deserved}
+use Rattle.machine.specs.Slices.{PlayLeaves}
 use Rattle.runs.specs.Schedule.{Schedule, LegalSchedule}
 use Rattle.runs.specs.Synchronous.{synchronous}
 use Rattle.equation.specs.declared.Start.{Start}
@@ -20,7 +21,8 @@ use Rattle.answering.specs.declared.Verdict.the-variants.{Refused}
 use Rattle.response.specs.Analysis.{answerOf}
 use Rattle.answering.specs.Results.{resultOf}
 use Rattle.response.specs.Outcome.{Call, Left, Outcome}
-use Rattle.engine.specs.Run.{AsInRun}
+use Rattle.engine.specs.Run.{AsInRun, HeldAsInRun}
+use Rattle.engine.specs.Held.{NumbersHeld}
 use Rattle.engine.specs.Outcome.{Played}
 
 -- "Any nonzero jitter or delay, or any row" is what a table must not have; a constant delay is one too
@@ -61,6 +63,16 @@ abbrev pub TableEveryTick : Type 0
 TableEveryTick =
     (bytes : List ℕ) → TableRight bytes → (ticks : ℕ) (s : Schedule) →
     LegalSchedule (tasksOf bytes) ticks (synchronous (tasksOf bytes) ticks) s → (t : ℕ) → t ≤ ticks → AsInRun (tasksOf bytes) ticks s t
+
+-- and the code does: where the columns hold the numbers of a table, what `play_all` leaves after the ticks that it played, as its
+-- contract says (`PlayLeaves`), is what that run has after as many. (It stops at any tick that it plays: `EveryLimit`.)
+abbrev pub CodeEveryTick : Type 0
+CodeEveryTick =
+    (bytes periods costs deadlines latest : List ℕ) → NumbersHeld bytes periods costs deadlines latest →
+    (limit : ℕ) (left due leftNow dueNow : List ℕ) (t ready next : ℕ) →
+    PlayLeaves periods costs (taskCount bytes) limit left due leftNow dueNow t ready next →
+    (ticks : ℕ) (s : Schedule) → LegalSchedule (tasksOf bytes) ticks (synchronous (tasksOf bytes) ticks) s → t ≤ ticks →
+    HeldAsInRun (tasksOf bytes) ticks s t leftNow ready
 
 -- the words and the verdict that the equation gives, by the definitions of demand 2
 pub record AsEquation (bytes answers : List ℕ) (verdict : Verdict) (left : List ℕ) : Type 0 where

@@ -52,7 +52,19 @@ fn play_columns(table: &[u8], words: &[u32], answers: &mut [u32]) -> Verdict
     let periods = &words[0..32];
     let costs = &words[32..64];
     let deadlines = &words[64..96];
-    play_all(periods, costs, deadlines, n, answers);
+    let limit = largest(deadlines, n);
+    let mut left = [0u64; 32];
+    let mut due = [0u32; 32];
+    play_all(
+        periods,
+        costs,
+        deadlines,
+        n,
+        limit,
+        &mut left,
+        &mut due,
+        answers,
+    );
     result(answers, n)
 }
 

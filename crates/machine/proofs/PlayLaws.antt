@@ -1,20 +1,26 @@
--- One tick of the slices that hold the engine's state, and what is reported after it.
+-- The ticks that are played: what the slices hold before and after each of them, what is reported, and where the play stops.
 -- Assumes nothing.
 use Prim.Native.Nat.{ℕ, zero, suc, _+_, _-_, _≤_, _<_}
 use native.Mathlib.Omega.{arith}
 use native.Mathlib.Numerals.{add-one}
 use mathlib.Core.Path.{_≡_, refl, sym, _∙_, ap}
+use mathlib.Core.Bool.{Bool}
 use mathlib.Core.List.{List}
 use mathlib.Core.Logic.{inl, inr}
+use lib.Dec.{eqb}
 use lib.ListN.{length, set, replicate, length-replicate, getD-replicate}
-use Rattle.model.specs.Lists.{filled, largestTo, wordOf}
-use Rattle.model.proofs.Lists.{getD-filled, length-filled, largest-low, largest-high}
+use borrow.Author.Tests.{eq-eqb, ne-eqb}
+use Rattle.model.specs.Choice.{pick}
+use Rattle.model.specs.Lists.{filled, wordOf}
+use Rattle.model.specs.Search.{firstFrom}
+use Rattle.model.proofs.Lists.{getD-filled, length-filled}
 use Rattle.model.proofs.Filling.{filled-set, filled-again, filled-same, filled-word, is-filled}
-use Rattle.model.proofs.Tests.{eqb?, ltb?}
-use Rattle.machine.specs.Machine.{State, after, nextPlace, placeServed, earliest, none, played}
-use Rattle.machine.specs.Slices.{TasksHeld, DeadlinesHeld, StateHeld, Leaves, HasNext, stateIn, releasedIn, servedIn, reportedIn}
+use Rattle.model.proofs.Search.{finds, missed}
+use Rattle.model.proofs.Tests.{eqb?, ltb?, clash}
+use Rattle.machine.specs.Machine.{State, after, nextPlace, placeServed, earliest, none, played, upTo, isQuiet, ticksPlayed}
+use Rattle.machine.specs.Slices.{TasksHeld, DeadlinesHeld, StateHeld, StartHeld, Leaves, PlayLeaves, HasNext, stateIn, releasedIn, servedIn, reportedIn}
 use Rattle.machine.proofs.MachineLaws.{Next, inTick, left-step, left-high, due-is, the-next, start-ready, stay-ready, after-own}
-use Rattle.machine.proofs.ReportLaws.{reported, report-none, report-late, report-all, report-on, report-other, report-quiet, report-own}
+use Rattle.machine.proofs.ReportLaws.{search-on, reported, report-none, report-late, report-all, report-on, report-other, report-quiet, report-own}
 use Rattle.machine.proofs.SameLaws.{Same, release-same, serve-same}
 use Rattle.machine.proofs.ReleaseLaws.{earliest-high, earliest-same}
 
@@ -25,64 +31,90 @@ module _ (periods costs : List ℕ) (n : ℕ) where
   abbrev raisedAt : ℕ → State
   raisedAt t = inTick (wordOf periods) (wordOf costs) n t
 
-  -- before tick t
-  pub record Playing (t : ℕ) (left due : List ℕ) (ready next : ℕ) : Type 0 where
-    pub early : t ≤ 1000000
-    pub leftLong : length left ≡ 32
-    pub dueLong : length due ≡ 32
-    pub same : Same n (stateIn left due ready) (engine t)
-    pub nextIs : next ≡ earliest (wordOf due) n
-    pub going : ¬ (raisedAt t .ready ≡ 0)
+  abbrev quiet : ℕ → Bool
+  quiet = isQuiet (wordOf periods) (wordOf costs) n
 
-  module _ (tasks : TasksHeld periods costs n) where
-    zeros : (p : ℕ) → p < n → wordOf (replicate 32 0) p ≡ 0
-    zeros p h = getD-replicate {A = ℕ} 32 p 0 0 (omega (arith, tasks .few))
+  -- before tick t: the state after the ticks before it stands in the slices, and after none of them all work was done
+  pub record Playing (limit : ℕ) (left₀ due₀ : List ℕ) (t : ℕ) (left due : List ℕ) (ready next : ℕ) : Type 0 where
+    pub early : t ≤ limit
+    pub holds : Leaves n left₀ due₀ (engine t) left due ready next
+    pub busy : firstFrom quiet 1 t ≡ 0
 
-    pub playing-none : Playing 0 (replicate 32 0) (replicate 32 0) 0 0
-    unfolding after earliest
+  module _ (tasks : TasksHeld periods costs n) (limit : ℕ) (short : limit ≤ 1000000) (left₀ due₀ : List ℕ)
+      (start : StartHeld n left₀ due₀) where
+    pub playing-none : Playing limit left₀ due₀ 0 left₀ due₀ 0 0
+    unfolding after earliest firstFrom
     playing-none =
         record {
           early = omega arith;
-          leftLong = length-replicate {A = ℕ} 32 0;
-          dueLong = length-replicate {A = ℕ} 32 0;
-          same = record { left = zeros; due = zeros; ready = refl };
-          nextIs = sym (first-due n (tasks .some) (λ p h. zeros p h));
-          going = start-ready (wordOf periods) (wordOf costs) n (tasks .few) (tasks .costLow) (tasks .some);
+          holds =
+              record {
+                leftIs = is-filled (engine 0 .left) n left₀ left₀ (start .leftLong) refl (start .noWork) (λ k h. refl);
+                dueIs = is-filled (engine 0 .due) n due₀ due₀ (start .dueLong) refl (start .allDue) (λ k h. refl);
+                readyIs = refl;
+                nextIs = sym (first-due n (tasks .some));
+              };
+          busy = refl;
         }
       where
-        first-due : (m : ℕ) → 1 ≤ m → ((p : ℕ) → p < m → wordOf (replicate 32 0) p ≡ 0) → earliest (wordOf (replicate 32 0)) m ≡ 0
-        first-due zero h each = absurd (omega arith)
-        first-due (suc m) h each = omega (arith, each m (omega arith))
+        first-due : (m : ℕ) → 1 ≤ m → earliest (λ p. 0) m ≡ 0
+        first-due zero h = absurd (omega arith)
+        first-due (suc m) h = omega arith
 
-    module _ (t : ℕ) (left due : List ℕ) (ready next : ℕ) (play : Playing t left due ready next) where
+    -- so there is work in the tick
+    going : (t : ℕ) → firstFrom quiet 1 t ≡ 0 → ¬ (raisedAt t .ready ≡ 0)
+    going zero busy = start-ready (wordOf periods) (wordOf costs) n (tasks .few) (tasks .costLow) (tasks .some)
+    going (suc t) busy =
+        stay-ready (wordOf periods) (wordOf costs) n (tasks .few) (tasks .costLow) (suc t)
+        (λ z. clash (quiet (suc t)) (eq-eqb (engine (suc t) .ready) 0 z)
+        (missed quiet 1 (suc t) (omega arith) busy (suc t) (omega arith) (omega arith)))
+
+    module _ (t : ℕ) (left due : List ℕ) (ready next : ℕ) (play : Playing limit left₀ due₀ t left due ready next) where
+      pub left-long : length left ≡ length left₀
+      left-long = ap length (play .holds .leftIs) ∙ length-filled (engine t .left) n left₀ (start .leftLong)
+
+      pub due-long : length due ≡ length due₀
+      due-long = ap length (play .holds .dueIs) ∙ length-filled (engine t .due) n due₀ (start .dueLong)
+
+      same : Same n (stateIn left due ready) (engine t)
+      same =
+          record {
+            left = filled-word (engine t .left) n left₀ left (play .holds .leftIs);
+            due = filled-word (engine t .due) n due₀ due (play .holds .dueIs);
+            ready = play .holds .readyIs;
+          }
+
       releasedSame : Same n (releasedIn periods costs n t left due ready) (raisedAt t)
       releasedSame =
           release-same (wordOf periods) (wordOf costs) (wordOf periods) (wordOf costs) n (λ p h. refl) (λ p h. refl) t
-          (stateIn left due ready) (engine t) (play .same)
+          (stateIn left due ready) (engine t) same
 
       nextOne : Next n (raisedAt t .left) (placeServed (wordOf periods) (wordOf costs) n t)
-      nextOne = the-next (wordOf periods) (wordOf costs) n (tasks .few) (tasks .costLow) t (play .going)
+      nextOne = the-next (wordOf periods) (wordOf costs) n (tasks .few) (tasks .costLow) t (going t (play .busy))
+
+      next-is : next ≡ earliest (wordOf due) n
+      next-is = play .holds .nextIs ∙ earliest-same (engine t .due) (wordOf due) n (λ p h. sym (same .due p h))
 
       pub state-held : StateHeld n t left due next
       state-held =
           record {
-            leftLong = omega (arith, play .leftLong, tasks .few);
-            dueLong = omega (arith, play .dueLong, tasks .few);
+            leftLong = omega (arith, left-long, start .leftLong);
+            dueLong = omega (arith, due-long, start .dueLong);
             leftHigh = λ p h.
                 omega (
                   arith,
-                  play .same .left p h,
+                  same .left p h,
                   left-high (wordOf periods) (wordOf costs) n (tasks .costHigh) t p h,
                   play .early,
                 );
             dueHigh = λ p h.
                 let d = due-is (wordOf periods) (wordOf costs) n (tasks .periodLow) t p h in
-                omega (arith, play .same .due p h, d .3, tasks .periodHigh p h, play .early);
-            nextIs = play .nextIs;
+                omega (arith, same .due p h, d .3, tasks .periodHigh p h, play .early);
+            nextIs = next-is;
             notPast =
-                rw (play .nextIs)
+                rw next-is
                 (earliest-high (wordOf due) n t (omega (arith, play .early))
-                (λ p h. omega (arith, play .same .due p h, due-is (wordOf periods) (wordOf costs) n (tasks .periodLow) t p h .2)));
+                (λ p h. omega (arith, same .due p h, due-is (wordOf periods) (wordOf costs) n (tasks .periodLow) t p h .2)));
           }
 
       pub has-next : HasNext n (releasedIn periods costs n t left due ready)
@@ -95,10 +127,10 @@ module _ (periods costs : List ℕ) (n : ℕ) where
           }
 
       module _ (place : ℕ) (is : place ≡ nextPlace (releasedIn periods costs n t left due ready .ready)) where
-        pub place-served : place ≡ placeServed (wordOf periods) (wordOf costs) n t
+        place-served : place ≡ placeServed (wordOf periods) (wordOf costs) n t
         place-served = is ∙ ap nextPlace (releasedSame .ready)
 
-        pub place-fits : place < n
+        place-fits : place < n
         place-fits = rw place-served (nextOne .isPlace)
 
       -- what is reported
@@ -149,13 +181,13 @@ module _ (periods costs : List ℕ) (n : ℕ) where
                       | inl l ↦
                           rw (w .0, l .0, add-one)
                           (sym (report-own (wordOf periods) (wordOf costs) n (wordOf deadlines) (tasks .costLow) (tasks .few)
-                          (due? .high) t place inside (play .going) (place-served place is) (omega (arith, left-is, w .1)) (l .1)))
+                          (due? .high) t place inside (going t (play .busy)) (place-served place is) (omega (arith, left-is, w .1)) (l .1)))
                     ]
               ]
 
-          pub told-more : (now : List ℕ) → now ≡ set answers place write → now ≡ filled (told (t + 1)) n old
-          told-more now stored =
-              rw add-one
+          pub told-more : (u : ℕ) → u ≡ t + 1 → (now : List ℕ) → now ≡ set answers place write → now ≡ filled (told u) n old
+          told-more u one now stored =
+              rw (one, add-one)
               (stored
               ∙ ap (λ (words : List ℕ). set words place write) are
               ∙ filled-set (told t) (told (suc t)) n place write old room inside written
@@ -163,88 +195,114 @@ module _ (periods costs : List ℕ) (n : ℕ) where
               (λ e. other (e ∙ sym (place-served place is))))))
 
       module _ (leftNow dueNow : List ℕ) (rest again : ℕ)
-          (holds : Leaves n left due (servedIn periods costs n t left due ready) leftNow dueNow rest again) where
+          (leaves : Leaves n left due (servedIn periods costs n t left due ready) leftNow dueNow rest again) where
         servedSame : Same n (servedIn periods costs n t left due ready) (engine (suc t))
         unfolding after
         servedSame =
             serve-same n (releasedIn periods costs n t left due ready) (raisedAt t) releasedSame
             (λ some. has-next .isPlace)
 
-        leftNow-is : (p : ℕ) → p < n → wordOf leftNow p ≡ engine (suc t) .left p
-        leftNow-is p h =
-            ap (λ (words : List ℕ). wordOf words p) (holds .leftIs)
-            ∙ getD-filled (servedIn periods costs n t left due ready .left) n p left 0 h ∙ servedSame .left p h
-
-        dueNow-is : (p : ℕ) → p < n → wordOf dueNow p ≡ servedIn periods costs n t left due ready .due p
-        dueNow-is p h =
-            ap (λ (words : List ℕ). wordOf words p) (holds .dueIs)
-            ∙ getD-filled (servedIn periods costs n t left due ready .due) n p due 0 h
-
-        rest-is : rest ≡ engine (suc t) .ready
-        rest-is = holds .readyIs ∙ servedSame .ready
-
-        pub left-long : length leftNow ≡ 32
-        left-long =
-            ap length (holds .leftIs)
-            ∙ length-filled (servedIn periods costs n t left due ready .left) n left (state-held .leftLong) ∙ play .leftLong
-
-        pub playing-more : t < 1000000 → ¬ (rest ≡ 0) → Playing (t + 1) leftNow dueNow rest again
-        playing-more early some =
-            rw add-one (record {
-              early = early;
-              leftLong = left-long;
-              dueLong =
-                  ap length (holds .dueIs)
-                  ∙ length-filled (servedIn periods costs n t left due ready .due) n due (state-held .dueLong) ∙ play .dueLong;
-              same = record { left = leftNow-is; due = λ p h. dueNow-is p h ∙ servedSame .due p h; ready = rest-is };
+        -- the tick leaves the state after it in the slices that held the first one
+        leaves-next : Leaves n left₀ due₀ (engine (suc t)) leftNow dueNow rest again
+        leaves-next =
+            record {
+              leftIs =
+                  leaves .leftIs
+                  ∙ again-filled (engine t .left) (servedIn periods costs n t left due ready .left) (engine (suc t) .left) left₀ left
+                  (start .leftLong) (play .holds .leftIs) (servedSame .left);
+              dueIs =
+                  leaves .dueIs
+                  ∙ again-filled (engine t .due) (servedIn periods costs n t left due ready .due) (engine (suc t) .due) due₀ due
+                  (start .dueLong) (play .holds .dueIs) (servedSame .due);
+              readyIs = leaves .readyIs ∙ servedSame .ready;
               nextIs =
-                  holds .nextIs
-                  ∙ earliest-same (servedIn periods costs n t left due ready .due) (wordOf dueNow) n (λ p h. sym (dueNow-is p h));
-              going =
-                  stay-ready (wordOf periods) (wordOf costs) n (tasks .few) (tasks .costLow) (suc t)
-                  (λ z. some (rest-is ∙ z));
+                  leaves .nextIs
+                  ∙ earliest-same (servedIn periods costs n t left due ready .due) (engine (suc t) .due) n (servedSame .due);
+            }
+          where
+            again-filled : (f g h : ℕ → ℕ) (old words : List ℕ) → n ≤ length old → words ≡ filled f n old →
+                ((p : ℕ) → p < n → g p ≡ h p) → filled g n words ≡ filled h n old
+            again-filled f g h old words room are alike =
+                ap (filled g n) are ∙ filled-again f g n old room ∙ filled-same g h n old alike
+
+        -- where work is left, the play goes on
+        pub playing-more : (u : ℕ) → u ≡ t + 1 → t < limit → ¬ (rest ≡ 0) → Playing limit left₀ due₀ u leftNow dueNow rest again
+        playing-more u one more some =
+            rw (one, add-one) (record {
+              early = more;
+              holds = leaves-next;
+              busy = search-on quiet t (ne-eqb (engine (suc t) .ready) 0 (λ z. some (leaves-next .readyIs ∙ z))) ∙ play .busy;
             })
 
-        -- where no task has work left, all is told
+        -- where none is left, it stops, and it is the first tick with that
+        pub stops-quiet : (u : ℕ) → u ≡ t + 1 → t < limit → rest ≡ 0 →
+            PlayLeaves periods costs n limit left₀ due₀ leftNow dueNow u rest again
+        unfolding ticksPlayed
+        stops-quiet u one more all =
+            let first : firstFrom quiet 1 limit ≡ suc t = finds quiet 1 limit (suc t) (record {
+              passes = eq-eqb (engine (suc t) .ready) 0 (sym (leaves-next .readyIs) ∙ all);
+              low = omega arith;
+              high = omega arith;
+              first = λ v low high. missed quiet 1 t (omega arith) (play .busy) v low (omega arith);
+            }) in
+            rw (one, add-one) (record { ticksAre = rw (first, ne-eqb (suc t) 0 (omega arith)) refl; stateIs = leaves-next })
+
+        -- and all is told
         pub told-all : (deadlines old now : List ℕ) →
-            now ≡ filled (reported (wordOf periods) (wordOf costs) n (wordOf deadlines) (t + 1)) n old → rest ≡ 0 →
-            now ≡ filled (played (wordOf periods) (wordOf costs) n (wordOf deadlines)) n old
-        told-all deadlines old now are quiet =
+            now ≡ filled (reported (wordOf periods) (wordOf costs) n (wordOf deadlines) (t + 1)) n old → t < limit → rest ≡ 0 →
+            now ≡ filled (played (wordOf periods) (wordOf costs) n (upTo limit (wordOf deadlines))) n old
+        told-all deadlines old now are more all =
             rw add-one at are
-            ∙ filled-same (reported (wordOf periods) (wordOf costs) n (wordOf deadlines) (suc t)) (played (wordOf periods) (wordOf costs) n (wordOf deadlines)) n old
-            (λ k h. report-quiet (wordOf periods) (wordOf costs) n (wordOf deadlines) (tasks .costLow) (tasks .few) (suc t) k h
-            (omega arith) (sym rest-is ∙ quiet))
+            ∙ filled-same (reported (wordOf periods) (wordOf costs) n (wordOf deadlines) (suc t))
+            (played (wordOf periods) (wordOf costs) n (upTo limit (wordOf deadlines))) n old
+            (λ k h. report-quiet (wordOf periods) (wordOf costs) n (wordOf deadlines) (tasks .costLow) (tasks .few) (suc t) limit k h
+            (omega arith) more (sym (leaves-next .readyIs) ∙ all))
 
-    -- where the latest deadline is past, too
-    pub told-late : (t : ℕ) (deadlines old answers : List ℕ) → answers ≡ filled (reported (wordOf periods) (wordOf costs) n (wordOf deadlines) t) n old →
-        largestTo (wordOf deadlines) n ≤ t → answers ≡ filled (played (wordOf periods) (wordOf costs) n (wordOf deadlines)) n old
-    told-late t deadlines old answers are past =
-        are
-        ∙ filled-same (reported (wordOf periods) (wordOf costs) n (wordOf deadlines) t) (played (wordOf periods) (wordOf costs) n (wordOf deadlines)) n old
-        (λ k h. report-all (wordOf periods) (wordOf costs) n (wordOf deadlines) t k (omega (arith, largest-low (wordOf deadlines) n k h)))
+      -- where the limit is reached, it stops too
+      at-limit : limit ≤ t → t ≡ limit
+      at-limit past = omega (arith, play .early)
 
-    -- before the first tick, in words that were set to 0
-    pub told-none : (deadlines entry cleared : List ℕ) → n ≤ length entry → cleared ≡ filled none n entry →
-        cleared ≡ filled (reported (wordOf periods) (wordOf costs) n (wordOf deadlines) 0) n cleared
-    told-none deadlines entry cleared room are =
-        is-filled (reported (wordOf periods) (wordOf costs) n (wordOf deadlines) 0) n cleared cleared
-        (rw (are, length-filled none n entry room) room) refl
-        (λ k h.
-        filled-word none n entry cleared are k h
-        ∙ sym (report-none (wordOf periods) (wordOf costs) n (wordOf deadlines) k))
-        (λ k h. refl)
+      pub stops-late : limit ≤ t → PlayLeaves periods costs n limit left₀ due₀ left due t ready next
+      unfolding ticksPlayed
+      stops-late past =
+          let none : firstFrom quiet 1 limit ≡ 0 = ap (firstFrom quiet 1) (sym (at-limit past)) ∙ play .busy in
+          record { ticksAre = rw none (at-limit past); stateIs = play .holds }
 
-    -- they are written over, all of them
-    pub told-over : (f : ℕ → ℕ) (entry cleared answers : List ℕ) → n ≤ length entry → cleared ≡ filled none n entry →
-        answers ≡ filled f n cleared → answers ≡ filled f n entry
-    told-over f entry cleared answers room over are =
-        are ∙ ap (filled f n) over ∙ filled-again none f n entry room
+      pub told-late : (deadlines old answers : List ℕ) → answers ≡ filled (reported (wordOf periods) (wordOf costs) n (wordOf deadlines) t) n old →
+          limit ≤ t → answers ≡ filled (played (wordOf periods) (wordOf costs) n (upTo limit (wordOf deadlines))) n old
+      told-late deadlines old answers are past =
+          are
+          ∙ filled-same (reported (wordOf periods) (wordOf costs) n (wordOf deadlines) t)
+          (played (wordOf periods) (wordOf costs) n (upTo limit (wordOf deadlines))) n old
+          (λ k h. report-all (wordOf periods) (wordOf costs) n (wordOf deadlines) t limit k (at-limit past))
 
-    -- and the slice keeps its length
-    pub told-long : (f : ℕ → ℕ) (cleared answers : List ℕ) → n ≤ length cleared → answers ≡ filled f n cleared → length answers ≡ length cleared
-    told-long f cleared answers room are = ap length are ∙ length-filled f n cleared room
+  -- before the first tick, in words that were set to 0
+  pub told-none : (deadlines entry cleared : List ℕ) → n ≤ length entry → cleared ≡ filled none n entry →
+      cleared ≡ filled (reported (wordOf periods) (wordOf costs) n (wordOf deadlines) 0) n cleared
+  told-none deadlines entry cleared room are =
+      is-filled (reported (wordOf periods) (wordOf costs) n (wordOf deadlines) 0) n cleared cleared
+      (rw (are, length-filled none n entry room) room) refl
+      (λ k h.
+      filled-word none n entry cleared are k h
+      ∙ sym (report-none (wordOf periods) (wordOf costs) n (wordOf deadlines) k))
+      (λ k h. refl)
 
-    -- no deadline is past 1,000,000
-    pub limit-high : (deadlines : List ℕ) → DeadlinesHeld periods deadlines n → largestTo (wordOf deadlines) n ≤ 1000000
-    limit-high deadlines held =
-        largest-high (wordOf deadlines) n 1000000 (λ k h. omega (arith, held .high k h, tasks .periodHigh k h))
+-- words that were set to 0 are written over, all of them
+pub told-over : (n : ℕ) (f : ℕ → ℕ) (entry cleared answers : List ℕ) → n ≤ length entry → cleared ≡ filled none n entry →
+    answers ≡ filled f n cleared → answers ≡ filled f n entry
+told-over n f entry cleared answers room over are = are ∙ ap (filled f n) over ∙ filled-again none f n entry room
+
+-- and the slice keeps its length
+pub told-long : (n : ℕ) (f : ℕ → ℕ) (cleared answers : List ℕ) → n ≤ length cleared → answers ≡ filled f n cleared →
+    length answers ≡ length cleared
+told-long n f cleared answers room are = ap length are ∙ length-filled f n cleared room
+
+-- slices of zeros hold what the engine starts with
+pub start-zeros : (n long : ℕ) → n ≤ long → StartHeld n (replicate long 0) (replicate long 0)
+start-zeros n long room =
+    record {
+      leftLong = rw (length-replicate {A = ℕ} long 0) room;
+      dueLong = rw (length-replicate {A = ℕ} long 0) room;
+      noWork = λ p h. getD-replicate {A = ℕ} long p 0 0 (omega arith);
+      allDue = λ p h. getD-replicate {A = ℕ} long p 0 0 (omega arith);
+    }

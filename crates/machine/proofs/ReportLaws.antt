@@ -10,7 +10,7 @@ use borrow.Author.Tests.{eq-eqb, ne-eqb}
 use Rattle.model.specs.Search.{firstFrom}
 use Rattle.model.proofs.Tests.{clash}
 use Rattle.model.proofs.Search.{found, finds, none, missed}
-use Rattle.machine.specs.Machine.{after, placeServed, isDone, played}
+use Rattle.machine.specs.Machine.{after, placeServed, isDone, played, upTo}
 use Rattle.machine.proofs.MachineLaws.{inTick, after-other, none-released, stays-done, the-next, none-held}
 
 -- a search from 1, over more and more numbers
@@ -23,7 +23,7 @@ module _ (test : ℕ → Bool) where
       (record { passes = f .passes; low = f .low; high = omega (arith, f .high); first = f .first })
 
   -- a number that fails changes nothing
-  search-on : (t : ℕ) → test (suc t) ≡ false → firstFrom test 1 (suc t) ≡ firstFrom test 1 t
+  pub search-on : (t : ℕ) → test (suc t) ≡ false → firstFrom test 1 (suc t) ≡ firstFrom test 1 t
   search-on t fails =
       elim (ℕ-discrete (firstFrom test 1 t) 0) [
         | no d ↦ search-kept t (suc t) (omega arith) (omega arith)
@@ -51,13 +51,14 @@ module _ (period cost : ℕ → ℕ) (n : ℕ) (deadline : ℕ → ℕ) where
   unfolding firstFrom
   report-none p = rw zero-min
 
-  -- nothing new after the deadline: what is reported then is the answer
+  -- nothing new after the deadline
   pub report-late : (t p : ℕ) → deadline p ≤ t → reported (suc t) p ≡ reported t p
   report-late t p h = ap (firstFrom (isDone period cost n p) 1) (omega arith)
 
-  pub report-all : (t p : ℕ) → deadline p ≤ t → reported t p ≡ played period cost n deadline p
+  -- what is reported up to a limit is the answer of a play up to there
+  pub report-all : (t limit p : ℕ) → t ≡ limit → reported t p ≡ played period cost n (upTo limit deadline) p
   unfolding played
-  report-all t p h = ap (firstFrom (isDone period cost n p) 1) (omega arith)
+  report-all t limit p e = ap (λ (x : ℕ). reported x p) e
 
   -- up to the deadline all ticks are searched
   in-time : (t p : ℕ) → t ≤ deadline p → reported t p ≡ firstFrom (isDone period cost n p) 1 t
@@ -107,15 +108,16 @@ module _ (period cost : ℕ → ℕ) (n : ℕ) (deadline : ℕ → ℕ) where
         ]
 
     module _ (few : n ≤ 32) where
-      -- where no work is left, every place has its answer
-      pub report-quiet : (t p : ℕ) → p < n → 1 ≤ t → after period cost n t .ready ≡ 0 → reported t p ≡ played period cost n deadline p
+      -- where no work is left, every place has the answer of a play up to any later limit
+      pub report-quiet : (t limit p : ℕ) → p < n → 1 ≤ t → t ≤ limit → after period cost n t .ready ≡ 0 →
+          reported t p ≡ played period cost n (upTo limit deadline) p
       unfolding played
-      report-quiet t p h low e =
+      report-quiet t limit p h low short e =
           elim (decLe (deadline p) t) [
-            | yes l ↦ report-all t p l
+            | yes l ↦ ap (firstFrom (isDone period cost n p) 1) (omega arith)
             | no l ↦
                 in-time t p (omega arith)
-                ∙ sym (report-kept t p low (none-held period cost n few costLow t e p h) (deadline p) (omega arith))
+                ∙ sym (report-kept t p low (none-held period cost n few costLow t e p h) (min limit (deadline p)) (omega arith))
           ]
 
       module _ (deadlineHigh : (p : ℕ) → p < n → deadline p ≤ period p) where

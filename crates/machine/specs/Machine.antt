@@ -94,6 +94,21 @@ isDone period cost n i x = eqb (after period cost n x .left i) 0
 unfoldable pub played : (period cost : ℕ → ℕ) (n : ℕ) (deadline : ℕ → ℕ) → ℕ → ℕ
 played period cost n deadline i = firstFrom (isDone period cost n i) 1 (deadline i)
 
+-- up to which tick a first job is reported where at most `limit` ticks are played
+abbrev pub upTo : (limit : ℕ) (deadline : ℕ → ℕ) → ℕ → ℕ
+upTo limit deadline i = min limit (deadline i)
+
+-- has no task work left after x ticks?
+abbrev pub isQuiet : (period cost : ℕ → ℕ) (n x : ℕ) → Bool
+isQuiet period cost n x = eqb (after period cost n x .ready) 0
+
+-- the number of ticks that are played where at most `limit` are: from 1 on the first after which no task has work left, since then every
+-- first job is done and no later tick changes an answer; and `limit` where there is none
+unfoldable pub ticksPlayed : (period cost : ℕ → ℕ) (n limit : ℕ) → ℕ
+ticksPlayed period cost n limit =
+    let found = firstFrom (isQuiet period cost n) 1 limit in
+    pick (eqb found 0) limit found
+
 -- an answer that is not known yet
 abbrev pub none : ℕ → ℕ
 none i = 0

@@ -7,7 +7,7 @@ use lib.Dec.{eqb, ltb}
 use lib.ListN.{length}
 use Rattle.model.specs.Choice.{pick, both}
 use Rattle.model.specs.Lists.{filled, wordOf}
-use Rattle.machine.specs.Machine.{State, released, served, nextPlace, earliest}
+use Rattle.machine.specs.Machine.{State, released, served, nextPlace, after, earliest, ticksPlayed}
 
 -- n tasks stand in the slices, within document 01's limits: "T and C are 1 to 1,000,000. D is 1 to T."
 pub record TasksHeld (periods costs : List ℕ) (n : ℕ) : Type 0 where
@@ -51,6 +51,18 @@ pub record Leaves (n : ℕ) (left due : List ℕ) (state : State) (leftNow dueNo
   pub dueIs : dueNow ≡ filled (state .due) n due
   pub readyIs : ready ≡ state .ready
   pub nextIs : next ≡ earliest (state .due) n
+
+-- two slices that hold what the engine starts with: no work is left, and every task is due at tick 0
+pub record StartHeld (n : ℕ) (left due : List ℕ) : Type 0 where
+  pub leftLong : n ≤ length left
+  pub dueLong : n ≤ length due
+  pub noWork : (p : ℕ) → p < n → wordOf left p ≡ 0
+  pub allDue : (p : ℕ) → p < n → wordOf due p ≡ 0
+
+-- what a play of at most `limit` ticks leaves in them: the state after the ticks that it played, and how many these are
+pub record PlayLeaves (periods costs : List ℕ) (n limit : ℕ) (left due leftNow dueNow : List ℕ) (ticks ready next : ℕ) : Type 0 where
+  pub ticksAre : ticks ≡ ticksPlayed (wordOf periods) (wordOf costs) n limit
+  pub stateIs : Leaves n left due (after (wordOf periods) (wordOf costs) n ticks) leftNow dueNow ready next
 
 -- the tick has a place to serve: one of the n tasks, with work
 pub record HasNext (n : ℕ) (state : State) : Type 0 where

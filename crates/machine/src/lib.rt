@@ -6,7 +6,7 @@ ghost use lib.ListN.{length, set};
 ghost use Rattle.model.specs.Choice.{pick};
 ghost use Rattle.model.specs.Lists.{filled, largestTo, wordOf};
 ghost use Rattle.machine.specs.Machine as spec;
-ghost use Rattle.machine.specs.Slices.{TasksHeld, DeadlinesHeld, StateHeld, Leaves, HasNext, releasedIn, servedIn, reportedIn};
+ghost use Rattle.machine.specs.Slices.{TasksHeld, DeadlinesHeld, StateHeld, StartHeld, Leaves, PlayLeaves, HasNext, releasedIn, servedIn, reportedIn};
 use model::Place;
 use model::Ticks;
 use model::larger;
@@ -121,18 +121,33 @@ pub fn largest(words: &[u32], n: usize) -> Ticks
     found
 }
 
-// Plays all n tasks at once, from tick 0 up to the latest deadline, and writes when the first job of each is done. Where no task has
-// work left, every first job is done, and no later tick can change an answer.
-pub fn play_all(periods: &[u32], costs: &[u32], deadlines: &[u32], n: usize, answers: &mut [u32])
+// Where a play stops: the number of ticks that it played, the ready word after them, and the earliest tick at which a task is due.
+pub struct Stopped {
+    pub ticks: Ticks,
+    pub ready: u32,
+    pub next: Ticks,
+}
+
+// Plays all n tasks at once, from tick 0, and writes when the first job of each is done. It plays at most `limit` ticks, and stops
+// where no task has work left: then every first job is done, and no later tick can change an answer.
+pub fn play_all(
+    periods: &[u32],
+    costs: &[u32],
+    deadlines: &[u32],
+    n: usize,
+    limit: Ticks,
+    left: &mut [u64],
+    due: &mut [u32],
+    answers: &mut [u32],
+) -> Stopped
     requires { ⌜ TasksHeld (now periods) (now costs) n ⌝ }
     requires { ⌜ DeadlinesHeld (now periods) (now deadlines) n ⌝ }
-    requires { ⌜ n ≤ length (now answers) ⌝ }
-    ensures { λ r. ⌜ now (answers .exit) ≡ filled (spec.played (wordOf (now (periods .entry))) (wordOf (now (costs .entry))) n (wordOf (now (deadlines .entry)))) n (now (answers .entry)) ⌝ }
+    requires { ⌜ StartHeld n (now left) (now due) ⌝ }
+    requires { ⌜ (limit .0 ≤ 1000000) × (n ≤ length (now answers)) ⌝ }
+    ensures { λ r. ⌜ PlayLeaves (now (periods .entry)) (now (costs .entry)) n (limit .0) (now (left .entry)) (now (due .entry)) (now (left .exit)) (now (due .exit)) (r .ticks .0) (r .ready) (r .next .0) ⌝ }
+    ensures { λ r. ⌜ now (answers .exit) ≡ filled (spec.played (wordOf (now (periods .entry))) (wordOf (now (costs .entry))) n (spec.upTo (limit .0) (wordOf (now (deadlines .entry))))) n (now (answers .entry)) ⌝ }
 {
     clear(n, answers);
-    let limit = largest(deadlines, n);
-    let mut left = [0u64; 32];
-    let mut due = [0u32; 32];
     let mut ready: u32 = 0;
     let mut next: u32 = 0;
     let mut at: u32 = 0;
@@ -143,17 +158,26 @@ pub fn play_all(periods: &[u32], costs: &[u32], deadlines: &[u32], n: usize, ans
             deadlines,
             n,
             Ticks(at),
-            &mut left,
-            &mut due,
+            left,
+            due,
             ready,
             Ticks(next),
             answers,
         );
-        if tick.ready == 0 {
-            return;
-        }
         ready = tick.ready;
         next = tick.next.0;
         at += 1;
+        if ready == 0 {
+            return Stopped {
+                ticks: Ticks(at),
+                ready,
+                next: Ticks(next),
+            };
+        }
+    }
+    Stopped {
+        ticks: Ticks(at),
+        ready,
+        next: Ticks(next),
     }
 }

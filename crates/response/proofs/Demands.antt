@@ -31,7 +31,7 @@ use Rattle.equation.proofs.StartLaws.{bothStarts, last-stops, earlier-goes-on}
 use Rattle.blocking.specs.Ceilings.{blockingOf, section}
 use Rattle.runs.specs.Jobs.{NoDelay}
 use Rattle.runs.specs.Statement.{Answers, responseOf}
-use Rattle.runs.proofs.Demand3 as runs
+use Rattle.runs.proofs.EquationRight as runs
 use Rattle.answering.specs.declared.Verdict.{Verdict}
 use Rattle.answering.specs.declared.Verdict.the-variants as verdict
 use Rattle.answering.specs.Results.{isSchedulable, lateIf, lateAt, resultOf}
@@ -285,7 +285,7 @@ module _ (start : Start) (lent : Call) (result : Left) (o : Outcome start lent r
       Answers (tasksOf bytes) i (wordOf (result .answers) i)
   run-answers calm bare i h =
       rw (answer-word i h ∙ plain-answer bytes calm bare i h)
-      (runs.demand3 (tasksOf bytes) (tasks-fit bytes (accepted .right .records)) calm i (omega (arith, tasks-count bytes)))
+      (runs.equationRight (tasksOf bytes) (tasks-fit bytes (accepted .right .records)) calm i (omega (arith, tasks-count bytes)))
 
 pub demand2 : says.Demand2
 demand2 = written

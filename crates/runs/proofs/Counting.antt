@@ -79,7 +79,7 @@ module _ (tasks : List Task) (ticks : ℕ) (jobs : List Job) (legal : LegalJobs 
           elim (within? (isOf p) needOf a (a + w) (jobOf jobs j)) [
             | inl i ↦
                 rw (within-is (isOf p) needOf a (a + w) (jobOf jobs j) i, within-is (isOf p) one a (a + w) (jobOf jobs j) i, mul-one)
-                (omega (arith, rw (eqb-true (jobOf jobs j .place) p (i .isIn)) at (legal .needHigh j l)))
+                (omega (arith, rw (eqb-true (jobOf jobs j .place) p (i .isIn)) at (legal .fits j l .needHigh)))
             | inr z ↦ omega arith
           ]
 

@@ -1,135 +1,83 @@
--- The small runs, computed: tests that the checker evaluates say that their tasks fit and their jobs are legal.
+-- The small runs, computed: what makes them runs are facts about numbers that the checker works out, number by number.
 -- Assumes nothing.
-use Prim.Native.Nat.{ℕ, zero, suc, _+_, _≤_, _<_}
+use Prim.Native.Nat.{ℕ, zero, suc, _≤_, _<_}
 use native.Mathlib.Nat.{not-suc-le-zero}
 use native.Mathlib.Decide.{ℕ-discrete}
 use native.Mathlib.Omega.{arith}
 use mathlib.Core.Path.{_≡_, refl}
-use mathlib.Core.Bool.{Bool, true, false}
+use mathlib.Core.Logic.{_≢_}
 use mathlib.Core.List.{List}
 use lib.ListN.{length}
-use lib.Dec.{leb, ltb, eqb}
-use borrow.Author.Tests.{leb-true, ltb-true, ne-eqb, eq-eqb, lt-ltb, le-leb}
-use Rattle.model.specs.Choice.{pick, both}
+use borrow.Author.Needs.{needs}
 use Rattle.model.specs.Lists.{sumOf, tabulate}
 use Rattle.model.specs.Tables.{Task, taskOf}
-use Rattle.runs.specs.Jobs.{Job, jobOf, taskFor, TasksFit, LegalJobs}
-use Rattle.runs.specs.Scheduler.{choose, past}
-use Rattle.runs.specs.Examples.{preempted, three, queued, ExamplesDrawn}
+use Rattle.runs.specs.Jobs.{jobOf, JobFits, JobsApart}
+use Rattle.runs.specs.Scheduler.{choose, past, scheduleOf}
+use Rattle.runs.specs.Examples.{Example, IsDrawn, preempted, three, queued, sporadic, empty, ExamplesDrawn}
 
-both-left : (a b : Bool) → both a b ≡ true → a ≡ true
-both-left true b p = refl
-both-left false b p = p
+-- what holds of each number below n, one number after the other
+abbrev Each : (ℕ → Type 0) → ℕ → Type 0
+Each holds zero = Unit {0}
+Each holds (suc n) = Each holds n × holds n
 
-both-right : (a b : Bool) → both a b ≡ true → b ≡ true
-both-right true b p = p
-both-right false b p = let z : _≡_ {A = ℕ} 0 1 = cc in absurd (omega arith)
+each : (holds : ℕ → Type 0) (n : ℕ) → Each holds n → (k : ℕ) → k < n → holds k
+each holds zero all k l = absurd (not-suc-le-zero l)
+each holds (suc n) all k l =
+    elim (ℕ-discrete k n) [ yes e ↦ rw e (all .1) | no d ↦ each holds n (all .0) k (omega arith) ]
 
--- the test passes at each number below n
-abbrev below : (ℕ → Bool) → ℕ → Bool
-below test zero = true
-below test (suc n) = both (below test n) (test n)
+-- of the task at place i
+record TaskFits (tasks : List Task) (i : ℕ) : Type 0 where
+  costLow : 1 ≤ taskOf tasks i .cost
+  deadlineLow : 1 ≤ taskOf tasks i .deadline
+  deadlineHigh : taskOf tasks i .deadline ≤ taskOf tasks i .period
+  fall : suc i < length tasks → taskOf tasks (suc i) .priority < taskOf tasks i .priority
 
-below-is : (test : ℕ → Bool) (n : ℕ) → below test n ≡ true → (k : ℕ) → k < n → test k ≡ true
-below-is test zero p k l = absurd (not-suc-le-zero l)
-below-is test (suc n) p k l =
-    elim (ℕ-discrete k n) [
-      | yes e ↦ rw e (both-right (below test n) (test n) p)
-      | no e ↦ below-is test n (both-left (below test n) (test n) p) k (omega arith)
-    ]
+-- of job j
+abbrev Fits : Example → ℕ → Type 0
+Fits e j = JobFits (e .tasks) (e .ticks) (jobOf (e .jobs) j)
 
-module _ (tasks : List Task) where
-  abbrev costTest : ℕ → Bool
-  costTest i = leb 1 (taskOf tasks i .cost)
+-- and of job a beside each other one
+abbrev Apart : Example → ℕ → ℕ → Type 0
+Apart e a b = a ≢ b → JobsApart (e .tasks) (jobOf (e .jobs) a) (jobOf (e .jobs) b)
 
-  abbrev lowTest : ℕ → Bool
-  lowTest i = leb 1 (taskOf tasks i .deadline)
+abbrev ApartFrom : Example → ℕ → Type 0
+ApartFrom e a = Each (Apart e a) (length (e .jobs))
 
-  abbrev highTest : ℕ → Bool
-  highTest i = leb (taskOf tasks i .deadline) (taskOf tasks i .period)
-
-  abbrev fallTest : ℕ → Bool
-  fallTest i = pick (ltb (suc i) (length tasks)) (ltb (taskOf tasks (suc i) .priority) (taskOf tasks i .priority)) true
-
-  tasks-fit : below costTest (length tasks) ≡ true → below lowTest (length tasks) ≡ true → below highTest (length tasks) ≡ true →
-      below fallTest (length tasks) ≡ true → TasksFit tasks
-  tasks-fit cost low high fall =
-      record {
-        periodLow = λ i l. omega (arith, lows i l, highs i l);
-        costLow = λ i l. leb-true 1 (taskOf tasks i .cost) (below-is costTest (length tasks) cost i l);
-        deadlineLow = lows;
-        deadlineHigh = highs;
-        fall = λ i l.
-            ltb-true (taskOf tasks (suc i) .priority) (taskOf tasks i .priority)
-            (rw (lt-ltb (suc i) (length tasks) l) at (below-is fallTest (length tasks) fall i (omega arith)));
-      }
-    where
-      lows : (i : ℕ) → i < length tasks → 1 ≤ taskOf tasks i .deadline
-      lows i l = leb-true 1 (taskOf tasks i .deadline) (below-is lowTest (length tasks) low i l)
-
-      highs : (i : ℕ) → i < length tasks → taskOf tasks i .deadline ≤ taskOf tasks i .period
-      highs i l = leb-true (taskOf tasks i .deadline) (taskOf tasks i .period) (below-is highTest (length tasks) high i l)
-
-  module _ (ticks : ℕ) (jobs : List Job) where
-    abbrev placeTest : ℕ → Bool
-    placeTest j = ltb (jobOf jobs j .place) (length tasks)
-
-    abbrev releaseTest : ℕ → Bool
-    releaseTest j = ltb (jobOf jobs j .release) ticks
-
-    abbrev someTest : ℕ → Bool
-    someTest j = leb 1 (jobOf jobs j .need)
-
-    abbrev mostTest : ℕ → Bool
-    mostTest j = leb (jobOf jobs j .need) (taskFor tasks jobs j .cost)
-
-    abbrev apartTest : ℕ → ℕ → Bool
-    apartTest a b =
-        pick (eqb a b) true
-        (pick (eqb (jobOf jobs a .place) (jobOf jobs b .place))
-        (pick (leb (jobOf jobs a .release) (jobOf jobs b .release))
-        (leb (jobOf jobs a .release + taskFor tasks jobs a .period) (jobOf jobs b .release)) true) true)
-
-    jobs-legal : below placeTest (length jobs) ≡ true → below releaseTest (length jobs) ≡ true →
-        below someTest (length jobs) ≡ true → below mostTest (length jobs) ≡ true →
-        below (λ a. below (apartTest a) (length jobs)) (length jobs) ≡ true → LegalJobs tasks ticks jobs
-    jobs-legal place release some most apart =
-        record {
-          hasTask = λ j l. ltb-true (jobOf jobs j .place) (length tasks) (below-is placeTest (length jobs) place j l);
-          inRun = λ j l. ltb-true (jobOf jobs j .release) ticks (below-is releaseTest (length jobs) release j l);
-          needLow = λ j l. leb-true 1 (jobOf jobs j .need) (below-is someTest (length jobs) some j l);
-          needHigh = λ j l. leb-true (jobOf jobs j .need) (taskFor tasks jobs j .cost) (below-is mostTest (length jobs) most j l);
-          apart = λ a b l m d same before.
-              leb-true (jobOf jobs a .release + taskFor tasks jobs a .period) (jobOf jobs b .release)
-              (rw (
-                ne-eqb a b d,
-                eq-eqb (jobOf jobs a .place) (jobOf jobs b .place) same,
-                le-leb (jobOf jobs a .release) (jobOf jobs b .release) before,
-              ) at
-              (below-is (apartTest a) (length jobs) (below-is (λ x. below (apartTest x) (length jobs)) (length jobs) apart a l) b m));
-        }
+is-drawn : (e : Example) → Each (TaskFits (e .tasks)) (length (e .tasks)) → Each (Fits e) (length (e .jobs)) →
+    Each (ApartFrom e) (length (e .jobs)) → tabulate (scheduleOf (e .tasks) (e .jobs)) (e .ticks) ≡ e .drawn → IsDrawn e
+is-drawn e tasks jobs pairs computed =
+    record {
+      tasksFit =
+          record {
+            periodLow = λ i l. omega (arith, task i l);
+            costLow = λ i l. omega (arith, task i l);
+            deadlineLow = λ i l. omega (arith, task i l);
+            deadlineHigh = λ i l. omega (arith, task i l);
+            fall = λ i l. omega (arith, task i (omega arith) .fall l);
+          };
+      legalJobs =
+          record {
+            fits = each (Fits e) (length (e .jobs)) jobs;
+            apart = λ a b l m. each (Apart e a) (length (e .jobs)) (each (ApartFrom e) (length (e .jobs)) pairs a l) b m;
+          };
+      computed = computed;
+    }
+  where
+    task : (i : ℕ) → i < length (e .tasks) → TaskFits (e .tasks) i
+    task = each (TaskFits (e .tasks)) (length (e .tasks)) tasks
 
 pub examplesDrawn : ExamplesDrawn
 unfolding sumOf tabulate choose past
 examplesDrawn = (
-  record {
-    tasksFit = tasks-fit (preempted .tasks) refl refl refl refl;
-    legalJobs = jobs-legal (preempted .tasks) (preempted .ticks) (preempted .jobs) refl refl refl refl refl;
-    computed = refl;
-  },
+  is-drawn preempted (search needs) (search needs) (search needs) refl,
   (
-    record {
-      tasksFit = tasks-fit (three .tasks) refl refl refl refl;
-      legalJobs = jobs-legal (three .tasks) (three .ticks) (three .jobs) refl refl refl refl refl;
-      computed = refl;
-    },
+    is-drawn three (search needs) (search needs) (search needs) refl,
     (
-      record {
-        tasksFit = tasks-fit (queued .tasks) refl refl refl refl;
-        legalJobs = jobs-legal (queued .tasks) (queued .ticks) (queued .jobs) refl refl refl refl refl;
-        computed = refl;
-      },
-      tt,
+      is-drawn queued (search needs) (search needs) (search needs) refl,
+      (
+        is-drawn sporadic (search needs) (search needs) (search needs) refl,
+        (is-drawn empty (search needs) (search needs) (search needs) refl, tt),
+      ),
     ),
   ),
 )

@@ -11,5 +11,5 @@ pub mod Lower
 pub mod TickLaws
 pub mod Compute
 pub mod Unique
-pub mod Demand3
+pub mod EquationRight
 pub mod Examples

@@ -55,7 +55,8 @@ module _ (tasks : List Task) (fit : TasksFit tasks) (ticks : ℕ) (s : Schedule)
   pub finished-demand : NoDelay tasks → (x : ℕ) → x ≤ ticks → x ≤ taskOf tasks i .period → Finished jobs s j x →
       (f : ℕ) × (1 ≤ f) × (f ≤ x) × (demand (taskOf tasks i .cost) (loadsOf tasks i) f ≤ f)
   finished-demand calm x h short done =
-      let last = last-tick jobs s j x (synchronous-legal tasks fit ticks .needLow j (first .isJob)) done in
+      let fits = synchronous-legal tasks fit ticks .fits j (first .isJob) in
+      let last = last-tick jobs s j x (omega (arith, fits .needLow, fit .costLow (jobOf jobs j .place) (fits .hasTask))) done in
       let f : ℕ = suc (last .0) in
       let early : f ≤ x = last .1 in (
         f,

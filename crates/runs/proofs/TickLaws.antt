@@ -122,7 +122,7 @@ module _ (tasks : List Task) (fit : TasksFit tasks) (ticks : ℕ) (s : Schedule)
       × ((p : ℕ) → p < jobOf (synchronous tasks ticks) j .place → workLeft (synchronous tasks ticks) s t p + fresh tasks t p ≡ 0)
   work-serves t j h e =
       let place : ℕ = jobOf jobs j .place in
-      let isTask : place < length tasks = synchronous-legal tasks fit ticks .hasTask j (law .ready t j h e .isJob) in
+      let isTask : place < length tasks = synchronous-legal tasks fit ticks .fits j (law .ready t j h e .isJob) .hasTask in
       let served : (p : ℕ) → servedPlace jobs (s t) p ≡ on (eqb place p) 1 = λ p. ap (λ (v : Service). servedPlace jobs v p) e in (
         isTask,
         omega (arith, work-next t place h isTask, served place, ap (λ (b : Bool). on b 1) (eq-eqb place place refl)),

@@ -1,8 +1,8 @@
 -- The run in which all tasks are released together: its jobs are legal, each place has a first job, and what places ask for up to
 -- each f.
 -- Assumes nothing.
-use Prim.Native.Nat.{ℕ, zero, suc, _+_, _*_, _≤_, _<_}
-use native.Mathlib.Nat.{zero-mul, suc-mul, mul-le-mul-right, le-mul-of-pos-right, le-refl, le-dest, not-suc-le-zero, lt-of-not-le}
+use Prim.Native.Nat.{ℕ, zero, suc, _+_, _*_, _-_, _%_, _≤_, _<_}
+use native.Mathlib.Nat.{zero-mul, suc-mul, mul-comm, mul-sub, mul-mod-right, mul-le-mul-right, le-mul-of-pos-right, le-refl, le-dest, not-suc-le-zero, lt-of-not-le}
 use native.Mathlib.Decide.{decLt, ℕ-discrete}
 use native.Mathlib.Omega.{arith}
 use mathlib.Core.Path.{_≡_, refl, sym, _∙_, ap}
@@ -22,7 +22,7 @@ use Rattle.equation.specs.Rounding.{ceilDiv}
 use Rattle.equation.specs.Demand.{demand}
 use Rattle.equation.proofs.Laws.{roundingUp}
 use Rattle.equation.proofs.RoundingLaws.{positive}
-use Rattle.runs.specs.Jobs.{Job, noJob, jobOf, TasksFit, NoDelay, LegalJobs}
+use Rattle.runs.specs.Jobs.{Job, noJob, jobOf, TasksFit, NoDelay, JobFits, JobsApart, LegalJobs}
 use Rattle.runs.specs.Synchronous.{jobAt, jobsAt, jobsBefore, synchronous, FirstJob, SynchronousIsRun}
 use Rattle.runs.proofs.Sums.{total-mono, total-zero, total-point, total-grows, total-first, sum-total, sum-tabulate}
 use Rattle.runs.proofs.Lists.{append-at, each-append}
@@ -30,20 +30,18 @@ use Rattle.runs.proofs.Windows.{within, within-is, within?, needOf, isO
 use Rattle.runs.proofs.BusyWindow.{asked}
 use Rattle.runs.proofs.Loads.{shareOf, demand-is}
 
--- what the run asks of one job
+-- a job of a place before m, as the run asks for it
 record Fits (tasks : List Task) (ticks m : ℕ) (job : Job) : Type 0 where
-  hasTask : job .place < length tasks
+  fits : JobFits tasks ticks job
   before : job .place < m
-  inRun : job .release < ticks
-  needLow : 1 ≤ job .need
-  needHigh : job .need ≤ taskOf tasks (job .place) .cost
 
--- and of two
-abbrev ApartJobs : List Task → Job → Job → Type 0
-ApartJobs tasks x y = x .place ≡ y .place → x .release ≤ y .release → x .release + taskOf tasks (x .place) .period ≤ y .release
-
+-- any two jobs
 abbrev Apart : List Task → List Job → Type 0
-Apart tasks jobs = (a b : ℕ) → a < length jobs → b < length jobs → a ≢ b → ApartJobs tasks (jobOf jobs a) (jobOf jobs b)
+Apart tasks jobs = (a b : ℕ) → a < length jobs → b < length jobs → a ≢ b → JobsApart tasks (jobOf jobs a) (jobOf jobs b)
+
+-- the distance of two multiples is a multiple: this run's releases keep to the period, though a run need not
+multiples : (a b d : ℕ) → (b * d - a * d) % d ≡ 0
+multiples a b d = rw (mul-comm b d, mul-comm a d, ← mul-sub d b a) (mul-mod-right d (b - a))
 
 apart-append : (tasks : List Task) (xs ys : List Job) → Apart tasks xs → Apart tasks ys →
     ((a b : ℕ) → a < length xs → b < length ys → jobOf xs a .place ≢ jobOf ys b .place) → Apart tasks (xs ++ ys)
@@ -68,11 +66,14 @@ module _ (tasks : List Task) (fit : TasksFit tasks) (ticks : ℕ) where
   jobAt-fits : (p k m : ℕ) → p < length tasks → p < m → k < ceilDiv ticks (taskOf tasks p .period) → Fits tasks ticks m (jobAt tasks p k)
   jobAt-fits p k m h u l =
       record {
-        hasTask = h;
+        fits =
+            record {
+              hasTask = h;
+              inRun = multiple-below p k ticks h l;
+              needLow = omega (arith, fit .costLow p h);
+              needHigh = omega arith;
+            };
         before = u;
-        inRun = multiple-below p k ticks h l;
-        needLow = fit .costLow p h;
-        needHigh = le-refl (taskOf tasks p .cost);
       }
 
   jobsAt-length : (p : ℕ) → length (jobsAt tasks ticks p) ≡ ceilDiv ticks (taskOf tasks p .period)
@@ -83,7 +84,7 @@ module _ (tasks : List Task) (fit : TasksFit tasks) (ticks : ℕ) where
 
   fits-more : (m : ℕ) (job : Job) → Fits tasks ticks m job → Fits tasks ticks (suc m) job
   fits-more m job f =
-      record { hasTask = f .hasTask; before = omega arith; inRun = f .inRun; needLow = f .needLow; needHigh = f .needHigh }
+      record { fits = f .fits; before = omega arith }
 
   fits-before : (m : ℕ) → m ≤ length tasks → (j : ℕ) → j < length (jobsBefore tasks ticks m) → Fits tasks ticks m (jobOf (jobsBefore tasks ticks m) j)
   unfolding jobsBefore
@@ -97,7 +98,13 @@ module _ (tasks : List Task) (fit : TasksFit tasks) (ticks : ℕ) where
   apart-at p h a b l m d =
       rw (jobsAt-is p a l, jobsAt-is p b m)
       (λ e before. elim (decLt a b) [
-        | yes u ↦ omega (arith, mul-le-mul-right (taskOf tasks p .period) u, suc-mul a (taskOf tasks p .period))
+        | yes u ↦
+            omega (
+              arith,
+              mul-le-mul-right (taskOf tasks p .period) u,
+              suc-mul a (taskOf tasks p .period),
+              multiples a b (taskOf tasks p .period),
+            )
         | no u ↦
             let less : b < a = omega arith in
             absurd (omega (arith, mul-le-mul-right (taskOf tasks p .period) less, suc-mul b (taskOf tasks p .period), fit .periodLow p h))
@@ -113,12 +120,8 @@ module _ (tasks : List Task) (fit : TasksFit tasks) (ticks : ℕ) where
   -- so the jobs are legal, in a run of any number of ticks
   pub synchronous-legal : LegalJobs tasks ticks (synchronous tasks ticks)
   synchronous-legal =
-      let fits = fits-before (length tasks) (le-refl (length tasks)) in
       record {
-        hasTask = λ j l. fits j l .hasTask;
-        inRun = λ j l. fits j l .inRun;
-        needLow = λ j l. fits j l .needLow;
-        needHigh = λ j l. fits j l .needHigh;
+        fits = λ j l. fits-before (length tasks) (le-refl (length tasks)) j l .fits;
         apart = apart-before (length tasks) (le-refl (length tasks));
       }
 

@@ -32,13 +32,13 @@ module _ (tasks : List Task) (fit : TasksFit tasks) (ticks : ℕ) (jobs : List J
   tie j k l m p r =
       let place : jobOf jobs j .place ≡ jobOf jobs k .place =
       le-antisymm
-      (not-later tasks fit (jobOf jobs j .place) (jobOf jobs k .place) (legal .hasTask j l) (omega arith))
-      (not-later tasks fit (jobOf jobs k .place) (jobOf jobs j .place) (legal .hasTask k m) (omega arith)) in
+      (not-later tasks fit (jobOf jobs j .place) (jobOf jobs k .place) (legal .fits j l .hasTask) (omega arith))
+      (not-later tasks fit (jobOf jobs k .place) (jobOf jobs j .place) (legal .fits k m .hasTask) (omega arith)) in
       let release = r place in
       elim (ℕ-discrete j k) [
         | yes e ↦ e
         | no d ↦
-            absurd (omega (arith, legal .apart j k l m d place (omega arith), fit .periodLow (jobOf jobs j .place) (legal .hasTask j l)))
+            absurd (omega (arith, legal .apart j k l m d place (omega arith), fit .periodLow (jobOf jobs j .place) (legal .fits j l .hasTask)))
       ]
 
   module _ (s other : Schedule) (law : LegalSchedule tasks ticks jobs s) (rule : LegalSchedule tasks ticks jobs other) where

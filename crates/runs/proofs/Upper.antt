@@ -34,7 +34,7 @@ module _ (tasks : List Task) (fit : TasksFit tasks) (ticks : ℕ) (jobs : List J
                 arith,
                 ltb-true (jobOf jobs k .place) m p,
                 not-later tasks fit (jobOf jobs (found .0) .place) (jobOf jobs k .place)
-                    (legal .hasTask (found .0) (law .ready t (found .0) h (found .1) .isJob))
+                    (legal .fits (found .0) (law .ready t (found .0) h (found .1) .isJob) .hasTask)
                     (law .urgent t (found .0) k h (found .1) r),
               )),
         );

@@ -1,4 +1,5 @@
--- Small runs, drawn by hand.
+-- Small runs, drawn by hand: what a run is may be read off them, and nothing that they do may be forbidden (SPECIFICATION 7;
+-- document 01, "A run").
 -- Assumes nothing.
 use Prim.Native.Nat.{ℕ}
 use mathlib.Core.Path.{_≡_}
@@ -62,8 +63,25 @@ queued =
           serves 0 ∷ serves 0 ∷ serves 0 ∷ serves 2 ∷ serves 2 ∷ serves 2 ∷ serves 3 ∷ serves 3 ∷ serves 3 ∷ serves 2 ∷ serves 1 ∷ serves 1 ∷ serves 1 ∷ serves 1 ∷ idle ∷ [];
     }
 
+-- What a run is free to do, in three tasks (4, 2), (6, 3) and (10, 4). Needs are below the cost: job 1 needs 1 of 2, and job 2, which
+-- job 1 preempts, 2 of 3. Gaps are above the period and no multiple of it: 5 between the first task's releases, at 2 and 7, and 7
+-- between the second one's, at 1 and 8. No task is released at 0, the third one never. The list has no order. Job 0 is released near
+-- the end, and unfinished at N.
+abbrev pub sporadic : Example
+sporadic =
+    record {
+      tasks = task 3 4 2 ∷ task 2 6 3 ∷ task 1 10 4 ∷ [];
+      jobs = job 1 8 3 ∷ job 0 2 1 ∷ job 1 1 2 ∷ job 0 7 2 ∷ [];
+      ticks = 10;
+      drawn = idle ∷ serves 2 ∷ serves 1 ∷ serves 2 ∷ idle ∷ idle ∷ idle ∷ serves 3 ∷ serves 3 ∷ serves 0 ∷ [];
+    }
+
+-- A run may have no job, and no tick.
+abbrev pub empty : Example
+empty = record { tasks = task 1 1 1 ∷ []; jobs = []; ticks = 0; drawn = [] }
+
 abbrev pub examples : List Example
-examples = preempted ∷ three ∷ queued ∷ []
+examples = preempted ∷ three ∷ queued ∷ sporadic ∷ empty ∷ []
 
 abbrev pub AllDrawn : List Example → Type 0
 AllDrawn [] = Unit {0}

@@ -39,16 +39,22 @@ jobOf jobs j = getD jobs j noJob
 abbrev pub taskFor : List Task → List Job → ℕ → Task
 taskFor tasks jobs j = taskOf tasks (jobOf jobs j .place)
 
+-- "Each job has a task, a release tick, and a need of 1 to C ticks." (SPECIFICATION 7.1; document 01, "A run")
+pub record JobFits (tasks : List Task) (ticks : ℕ) (job : Job) : Type 0 where
+  -- "a task,"
+  pub hasTask : job .place < length tasks
+  -- "a release tick,"
+  pub inRun : job .release < ticks
+  -- "and a need of 1 to C ticks."
+  pub needLow : 1 ≤ job .need
+  pub needHigh : job .need ≤ taskOf tasks (job .place) .cost
+
+-- "Two releases of one task are at least T apart.": of two jobs the one that is not released later comes T before the other. Nothing
+-- else is asked of the distance.
+abbrev pub JobsApart : List Task → Job → Job → Type 0
+JobsApart tasks a b = a .place ≡ b .place → a .release ≤ b .release → a .release + taskOf tasks (a .place) .period ≤ b .release
+
 -- "A run is a finite number N of ticks, 0 to N − 1, and a finite set of jobs."
 pub record LegalJobs (tasks : List Task) (ticks : ℕ) (jobs : List Job) : Type 0 where
-  -- "Each job has a task,"
-  pub hasTask : (j : ℕ) → j < length jobs → jobOf jobs j .place < length tasks
-  -- "a release tick,"
-  pub inRun : (j : ℕ) → j < length jobs → jobOf jobs j .release < ticks
-  -- "and a need of 1 to C ticks."
-  pub needLow : (j : ℕ) → j < length jobs → 1 ≤ jobOf jobs j .need
-  pub needHigh : (j : ℕ) → j < length jobs → jobOf jobs j .need ≤ taskFor tasks jobs j .cost
-  -- "Two releases of one task are at least T apart.": of two jobs the one that is not released later comes T before the other
-  pub apart : (a b : ℕ) → a < length jobs → b < length jobs → a ≢ b → jobOf jobs a .place ≡ jobOf jobs b .place →
-      jobOf jobs a .release ≤ jobOf jobs b .release →
-      jobOf jobs a .release + taskFor tasks jobs a .period ≤ jobOf jobs b .release
+  pub fits : (j : ℕ) → j < length jobs → JobFits tasks ticks (jobOf jobs j)
+  pub apart : (a b : ℕ) → a < length jobs → b < length jobs → a ≢ b → JobsApart tasks (jobOf jobs a) (jobOf jobs b)

@@ -1,4 +1,4 @@
--- Demand 3 (document 01, "A run"), and that it speaks of something. Proofs are in proofs/.
+-- Demand 3 over any list of tasks (SPECIFICATION 8.3; document 01, "A run"), and that it speaks of something. Proofs are in proofs/.
 -- Assumes nothing.
 use Prim.Native.Nat.{ℕ, _+_, _-_, _≤_, _<_}
 use mathlib.Core.Path.{_≡_}
@@ -39,9 +39,10 @@ pub record Answers (tasks : List Task) (i R : ℕ) : Type 0 where
 abbrev pub responseOf : List Task → ℕ → ℕ
 responseOf tasks i = answer (taskOf tasks i .cost) (loadsOf tasks i) 0 (taskOf tasks i .deadline)
 
--- Demand 3. "More urgent tasks may themselves be late; the statement still holds.": nothing is asked of the other tasks' answers.
-abbrev pub Demand3 : Type 0
-Demand3 = (tasks : List Task) → TasksFit tasks → NoDelay tasks → (i : ℕ) → i < length tasks → Answers tasks i (responseOf tasks i)
+-- The answers of the equation are right about every run. (Of the words that a call leaves, `Demand3` in crates/response says so.)
+-- "More urgent tasks may themselves be late; the statement still holds.": nothing is asked of the other tasks' answers.
+abbrev pub EquationRight : Type 0
+EquationRight = (tasks : List Task) → TasksFit tasks → NoDelay tasks → (i : ℕ) → i < length tasks → Answers tasks i (responseOf tasks i)
 
 -- It says so of no other number up to the deadline: a generous one fails "some run", a small one fails "every job".
 abbrev pub OnlyAnswer : Type 0

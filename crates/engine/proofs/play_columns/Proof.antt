@@ -2,41 +2,126 @@
 -- Assumes nothing.
 use native.Mathlib.Omega.{arith}
 use mathlib.Core.Path.{sym, _∙_}
-use Rattle.engine.proofs.PlayedLaws.{right, tasks-held, deadlines-held, no-room, rows-refused, delay-refused, all-played}
+use Rattle.machine.proofs.PlayLaws.{start-zeros}
+use Rattle.engine.proofs.PlayedLaws.{right, tasks-held, deadlines-held, limit-high, no-room, rows-refused, delay-refused, all-played}
 use borrow.Author.Needs.{needs}
 use Rattle.engine.proofs.play_columns.Statement.{statement}
 use Rattle.engine.proofs.play_columns.Tie as tie
 
+shared-slice-read-count : tie.Need-shared-slice-read-count
+shared-slice-read-count c = omega (arith, right _ _ _ _ _ (c .before .before .before .before .pre .1) .head .longEnough)
+
+count-requires : tie.Need-count-requires
+count-requires c κs = search needs
+
 returns : tie.Need-returns
 returns c = no-room _ _ _ _ _ (c .before .before .before .before .before .before .pre .1) _ (c .before .count .ensures .0) _ (c .if1 .taken)
+
+shared-slice-read-if2 : tie.Need-shared-slice-read-if2
+shared-slice-read-if2 c = omega (arith, right _ _ _ _ _ (c .before .before .before .before .before .before .before .pre .1) .head .longEnough)
 
 returns-2 : tie.Need-returns-2
 returns-2 c = rows-refused _ _ _ _ _ (c .before .before .before .before .before .before .before .before .pre .1) _ (c .before .before .before .count .ensures .0) _ (c .before .before .if1 .left) (c .if2 .taken)
 
+sub-latest : tie.Need-sub-latest
+sub-latest c = search needs
+
+part-latest-start : tie.Need-part-latest-start
+part-latest-start c = search needs
+
+part-latest-end : tie.Need-part-latest-end
+part-latest-end c = search needs
+
+largest-requires : tie.Need-largest-requires
+largest-requires c κs = search needs
+
 returns-3 : tie.Need-returns-3
 returns-3 c = delay-refused _ _ _ _ _ (c .before .before .before .before .before .before .before .before .before .before .before .before .pre .1) _ (c .before .before .before .before .before .before .before .count .ensures .0) _ (c .before .before .before .before .before .before .if1 .left) (λ e. c .if3 .taken (c .before .before .largest .ensures ∙ e))
 
+sub-periods : tie.Need-sub-periods
+sub-periods c = search needs
+
+part-periods-start : tie.Need-part-periods-start
+part-periods-start c = search needs
+
+part-periods-end : tie.Need-part-periods-end
+part-periods-end c = search needs
+
+sub-costs : tie.Need-sub-costs
+sub-costs c = search needs
+
+part-costs-start : tie.Need-part-costs-start
+part-costs-start c = search needs
+
+part-costs-end : tie.Need-part-costs-end
+part-costs-end c = search needs
+
+sub-deadlines : tie.Need-sub-deadlines
+sub-deadlines c = search needs
+
+part-deadlines-start : tie.Need-part-deadlines-start
+part-deadlines-start c = search needs
+
+part-deadlines-end : tie.Need-part-deadlines-end
+part-deadlines-end c = search needs
+
+largest-requires-2 : tie.Need-largest-requires-2
+largest-requires-2 c κs = search needs
+
+slice-aggregate-play-all : tie.Need-slice-aggregate-play-all
+slice-aggregate-play-all c = search needs
+
+slice-aggregate-play-all-2 : tie.Need-slice-aggregate-play-all-2
+slice-aggregate-play-all-2 c = search needs
+
 play-all-requires : tie.Need-play-all-requires
-play-all-requires c κs = (tasks-held _ _ _ _ _ (c .before .before .before .before .before .before .before .before .before .before .before .before .before .before .before .before .pre .1) _ (c .before .before .before .before .before .before .before .before .before .before .before .count .ensures .0), (deadlines-held _ _ _ _ _ (c .before .before .before .before .before .before .before .before .before .before .before .before .before .before .before .before .pre .1) _ (c .before .before .before .before .before .before .before .before .before .before .before .count .ensures .0), c .before .before .before .before .before .before .before .before .before .before .if1 .left))
+play-all-requires c κs = (
+  tasks-held _ _ _ _ _ (c .before .before .before .before .before .before .before .before .before .before .before .before .before .before .before .before .before .before .before .pre .1) _ (c .before .before .before .before .before .before .before .before .before .before .before .before .before .before .count .ensures .0),
+  (
+    deadlines-held _ _ _ _ _ (c .before .before .before .before .before .before .before .before .before .before .before .before .before .before .before .before .before .before .before .pre .1) _ (c .before .before .before .before .before .before .before .before .before .before .before .before .before .before .count .ensures .0),
+    (
+      start-zeros _ 32 (tasks-held _ _ _ _ _ (c .before .before .before .before .before .before .before .before .before .before .before .before .before .before .before .before .before .before .before .pre .1) _ (c .before .before .before .before .before .before .before .before .before .before .before .before .before .before .count .ensures .0) .few),
+      (limit-high _ _ _ _ _ (c .before .before .before .before .before .before .before .before .before .before .before .before .before .before .before .before .before .before .before .pre .1) _ (c .before .before .before .before .before .before .before .before .before .before .before .before .before .before .count .ensures .0) _ (c .before .before .before .largest2 .ensures), c .before .before .before .before .before .before .before .before .before .before .before .before .before .if1 .left),
+    ),
+  ),
+)
+
+result-requires : tie.Need-result-requires
+result-requires c κs = search needs
+
+same-length : tie.Need-same-length
+same-length c = search needs
 
 returns-4 : tie.Need-returns-4
-returns-4 c = all-played _ _ _ _ _ (c .before .before .before .before .before .before .before .before .before .before .before .before .before .before .before .before .before .before .before .before .before .pre .1) _ (c .before .before .before .before .before .before .before .before .before .before .before .before .before .before .before .before .count .ensures .0) _ (c .before .before .before .before .before .before .before .before .before .before .before .before .before .before .before .if1 .left) (c .before .before .before .before .before .before .before .before .before .before .before .before .before .if2 .left) (sym (c .before .before .before .before .before .before .before .before .before .before .before .largest .ensures) ∙ c .before .before .before .before .before .before .before .before .before .if3 .left) _ _ (c .before .before .before .before .play-all .ensures) (c .result .ensures)
+returns-4 c = all-played _ _ _ _ _ (c .before .before .before .before .before .before .before .before .before .before .before .before .before .before .before .before .before .before .before .before .before .before .before .before .before .before .pre .1) _ (c .before .before .before .before .before .before .before .before .before .before .before .before .before .before .before .before .before .before .before .before .before .count .ensures .0) _ (c .before .before .before .before .before .before .before .before .before .before .before .before .before .before .before .before .before .before .before .before .if1 .left) (c .before .before .before .before .before .before .before .before .before .before .before .before .before .before .before .before .before .before .if2 .left) (sym (c .before .before .before .before .before .before .before .before .before .before .before .before .before .before .before .before .largest .ensures) ∙ c .before .before .before .before .before .before .before .before .before .before .before .before .before .before .if3 .left) _ _ _ (c .before .before .before .before .before .before .before .before .before .before .largest2 .ensures) (c .before .before .before .before .before .before .play-all .ensures .1) (c .result .ensures)
 
 pub play-columns-spec : {M : Type 1} → statement M
 play-columns-spec =
     tie.close
     (tie.spec
-    (λ c. omega (arith, right _ _ _ _ _ (c .before .before .before .before .pre .1) .head .longEnough))
-    (λ c κs. tt) returns
-    (λ c. omega (arith, right _ _ _ _ _ (c .before .before .before .before .before .before .before .pre .1) .head .longEnough))
-    returns-2 (λ c. omega arith) (λ c. omega arith)
-    (λ c. omega (arith, c .before .before .before .before .before .before .before .before .pre .0))
-    (λ c κs. search needs) returns-3 (λ c. omega arith) (λ c. omega arith)
-    (λ c. omega (arith, c .before .before .before .before .before .before .before .before .before .before .before .before .pre .0))
-    (λ c. omega arith) (λ c. omega arith)
-    (λ c. omega (arith, c .before .before .before .before .before .before .before .before .before .before .before .before .before .pre .0))
-    (λ c. omega arith) (λ c. omega arith)
-    (λ c. omega (arith, c .before .before .before .before .before .before .before .before .before .before .before .before .before .before .pre .0))
-    play-all-requires (λ c κs. search needs)
-    (λ c. c .before .before .before .before .play-all .kept .1 .1 .1 .1 .0)
+    shared-slice-read-count
+    count-requires
+    returns
+    shared-slice-read-if2
+    returns-2
+    sub-latest
+    part-latest-start
+    part-latest-end
+    largest-requires
+    returns-3
+    sub-periods
+    part-periods-start
+    part-periods-end
+    sub-costs
+    part-costs-start
+    part-costs-end
+    sub-deadlines
+    part-deadlines-start
+    part-deadlines-end
+    largest-requires-2
+    slice-aggregate-play-all
+    slice-aggregate-play-all-2
+    play-all-requires
+    result-requires
+    same-length
     returns-4)

@@ -2,98 +2,102 @@
 -- Assumes nothing.
 use Prim.Native.Nat.{_-_}
 use native.Mathlib.Omega.{arith}
-use mathlib.Core.Path.{_≡_, sym}
+use mathlib.Core.Path.{_≡_, refl}
 use Rattle.model.specs.Lists.{filled, wordOf}
 use Rattle.machine.proofs.ReportLaws.{reported}
-use Rattle.machine.proofs.PlayLaws.{Playing, playing-none, state-held, has-next, playing-more, told-none, told-more, told-all, told-late, told-over, told-long, limit-high}
+use Rattle.machine.proofs.PlayLaws.{Playing, playing-none, left-long, due-long, state-held, has-next, playing-more, stops-quiet, stops-late, told-none, told-more, told-all, told-late, told-over, told-long}
 use Rattle.machine.proofs.play_all.Statement.{statement}
 use Rattle.machine.proofs.play_all.Tie as tie
 
 abbrev Inv-loop : tie.InvT-loop
-Inv-loop periods costs deadlines n answers₀ limit left₀ due₀ ready₀ next₀ at₀ answers left due ready next at =
-    Playing periods costs n at left due ready next
+Inv-loop periods costs deadlines n limit left₀ due₀ answers₀ ready₀ next₀ at₀ left due answers ready next at =
+    Playing periods costs n (limit .0) left₀ due₀ at left due ready next
     × (answers ≡ filled (reported (wordOf periods) (wordOf costs) n (wordOf deadlines) at) n answers₀)
 
 abbrev μ-loop : tie.MeasureT-loop
-μ-loop periods costs deadlines n answers₀ limit left₀ due₀ ready₀ next₀ at₀ answers left due ready next at = limit .0 - at
+μ-loop periods costs deadlines n limit left₀ due₀ answers₀ ready₀ next₀ at₀ left due answers ready next at = limit .0 - at
 
 clear-requires : tie.Need-clear-requires Inv-loop μ-loop
-clear-requires c κs = c .before .before .before .before .before .pre .1 .1
-
-largest-requires : tie.Need-largest-requires Inv-loop μ-loop
-largest-requires c κs = c .before .before .before .before .before .before .before .before .pre .1 .0 .long
+clear-requires c κs = c .before .before .before .before .before .before .before .pre .1 .1 .1 .1
 
 loop-holds : tie.Need-loop-holds Inv-loop μ-loop
 loop-holds c =
-    let a = c .before .before .before .before .before .before .before .before .before .args in
-    (playing-none _ _ _ (c .before .before .before .before .before .before .before .before .before .pre .0), told-none (a .periods .now) (a .costs .now) (a .n) (c .before .before .before .before .before .before .before .before .before .pre .0) (a .deadlines .now) _ _ (c .before .before .before .before .before .before .before .before .before .pre .1 .1) (c .before .before .before .clear .ensures))
-
-slice-aggregate-step : tie.Need-slice-aggregate-step Inv-loop μ-loop
-slice-aggregate-step c = sym (c .before .before .before .loop .inv .0 .leftLong)
-
-slice-aggregate-step-2 : tie.Need-slice-aggregate-step-2 Inv-loop μ-loop
-slice-aggregate-step-2 c = sym (c .before .before .before .before .loop .inv .0 .dueLong)
+    let a = c .before .before .before .before .before .before .before .before .before .before .args in
+    let g = c .before .before .before .before .before .before .before .before .before .before .pre in
+    (playing-none _ _ _ (g .0) _ (g .1 .1 .1 .0) _ _ (g .1 .1 .0), told-none (a .periods .now) (a .costs .now) (a .n) (a .deadlines .now) _ _ (g .1 .1 .1 .1) (c .before .before .clear .ensures))
 
 step-requires : tie.Need-step-requires Inv-loop μ-loop
 step-requires c κs =
-    let tasks = c .before .before .before .before .before .before .before .before .before .before .before .before .before .before .before .pre .0 in
-    let held = c .before .before .before .before .before .before .before .before .before .before .before .before .before .before .before .pre .1 .0 in
-    let room = c .before .before .before .before .before .before .before .before .before .before .before .before .before .before .before .pre .1 .1 in
-    let play = c .before .before .before .before .before .loop .inv .0 in
-    let long = told-long _ _ _ tasks _ _ _ (omega (arith, c .before .before .before .before .before .before .before .before .before .clear .kept, room)) (c .before .before .before .before .before .loop .inv .1) in (
-      tasks,
+    let g = c .before .before .before .before .before .before .before .before .before .before .before .before .before .before .before .before .pre in
+    let long = told-long _ _ _ _ (omega (arith, c .before .before .before .before .before .before .before .before .clear .kept, g .1 .1 .1 .1)) (c .before .before .before .before .before .loop .inv .1) in (
+      g .0,
       (
-        (held .long, omega (arith, long, c .before .before .before .before .before .before .before .before .before .clear .kept, room), omega (arith, c .before .before .before .if1 .taken, c .before .before .before .before .before .before .largest .ensures, limit-high _ _ _ tasks _ held)),
-        (state-held _ _ _ tasks _ _ _ _ _ play, has-next _ _ _ tasks _ _ _ _ _ play),
+        (g .1 .0 .long, omega (arith, long, c .before .before .before .before .before .before .before .before .clear .kept, g .1 .1 .1 .1), omega (arith, c .before .before .before .if1 .taken, g .1 .1 .1 .0)),
+        (state-held _ _ _ (g .0) _ (g .1 .1 .1 .0) _ _ (g .1 .1 .0) _ _ _ _ _ (c .before .before .before .before .before .loop .inv .0), has-next _ _ _ (g .0) _ (g .1 .1 .1 .0) _ _ (g .1 .1 .0) _ _ _ _ _ (c .before .before .before .before .before .loop .inv .0)),
       ),
     )
 
+add-at : tie.Need-add-at Inv-loop μ-loop
+add-at c = omega (arith, c .before .before .before .before .before .before .before .before .before .before .if1 .taken, c .before .before .before .before .before .before .before .before .before .before .before .before .before .before .before .before .before .before .before .before .before .before .before .pre .1 .1 .1 .0)
+
 same-length : tie.Need-same-length Inv-loop μ-loop
 same-length c =
-    let tasks = c .before .before .before .before .before .before .before .before .before .before .before .before .before .before .before .before .before .before .before .before .before .before .pre .0 in
-    let room = c .before .before .before .before .before .before .before .before .before .before .before .before .before .before .before .before .before .before .before .before .before .before .pre .1 .1 in
-    let long = told-long _ _ _ tasks _ _ _ (omega (arith, c .before .before .before .before .before .before .before .before .before .before .before .before .before .before .before .before .clear .kept, room)) (c .before .before .before .before .before .before .before .before .before .before .before .before .loop .inv .1) in
-    omega (arith, c .before .before .before .before .before .before .step .kept, long, c .before .before .before .before .before .before .before .before .before .before .before .before .before .before .before .before .clear .kept)
-
-returns : tie.Need-returns Inv-loop μ-loop
-returns c =
-    let tasks = c .before .before .before .before .before .before .before .before .before .before .before .before .before .before .before .before .before .before .before .before .before .before .pre .0 in
-    let held = c .before .before .before .before .before .before .before .before .before .before .before .before .before .before .before .before .before .before .before .before .before .before .pre .1 .0 in
-    let room = c .before .before .before .before .before .before .before .before .before .before .before .before .before .before .before .before .before .before .before .before .before .before .pre .1 .1 in
-    let play = c .before .before .before .before .before .before .before .before .before .before .before .before .loop .inv .0 in
-    let e = c .before .before .before .before .before .before .step .ensures in
-    let more = told-more _ _ _ tasks _ _ _ _ _ play _ _ _ held (omega (arith, c .before .before .before .before .before .before .before .before .before .before .before .before .before .before .before .before .clear .kept, room)) _ (e .1 .0) (c .before .before .before .before .before .before .before .before .before .before .before .before .loop .inv .1) _ (e .1 .1) in
-    told-over _ _ _ tasks _ _ _ _ room (c .before .before .before .before .before .before .before .before .before .before .before .before .before .before .before .before .clear .ensures) (told-all _ _ _ tasks _ _ _ _ _ play _ _ _ _ (e .0) (c .before .before .before .before .before .before .before .before .before .before .before .before .before .before .before .before .before .before .before .before .before .before .args .deadlines .now) _ _ more (c .if2 .taken))
-
-add-at : tie.Need-add-at Inv-loop μ-loop
-add-at c = omega (arith, c .before .before .before .before .before .before .before .before .before .before .if1 .taken, c .before .before .before .before .before .before .before .before .before .before .before .before .before .largest .ensures, limit-high _ _ _ (c .before .before .before .before .before .before .before .before .before .before .before .before .before .before .before .before .before .before .before .before .before .before .pre .0) _ (c .before .before .before .before .before .before .before .before .before .before .before .before .before .before .before .before .before .before .before .before .before .before .pre .1 .0))
-
-loop-less : tie.Need-loop-less Inv-loop μ-loop
-loop-less c = omega (arith, c .before .before .before .before .before .before .before .before .before .before .if1 .taken)
-
-loop-again : tie.Need-loop-again Inv-loop μ-loop
-loop-again c =
-    let tasks = c .before .before .before .before .before .before .before .before .before .before .before .before .before .before .before .before .before .before .before .before .before .before .pre .0 in
-    let held = c .before .before .before .before .before .before .before .before .before .before .before .before .before .before .before .before .before .before .before .before .before .before .pre .1 .0 in
-    let room = c .before .before .before .before .before .before .before .before .before .before .before .before .before .before .before .before .before .before .before .before .before .before .pre .1 .1 in
-    let play = c .before .before .before .before .before .before .before .before .before .before .before .before .loop .inv .0 in
-    let e = c .before .before .before .before .before .before .step .ensures in (
-      playing-more _ _ _ tasks _ _ _ _ _ play _ _ _ _ (e .0) (omega (arith, c .before .before .before .before .before .before .before .before .before .before .if1 .taken, c .before .before .before .before .before .before .before .before .before .before .before .before .before .largest .ensures, limit-high _ _ _ tasks _ held)) (c .if2 .left),
-      told-more _ _ _ tasks _ _ _ _ _ play _ _ _ held (omega (arith, c .before .before .before .before .before .before .before .before .before .before .before .before .before .before .before .before .clear .kept, room)) _ (e .1 .0) (c .before .before .before .before .before .before .before .before .before .before .before .before .loop .inv .1) _ (e .1 .1),
-    )
+    let g = c .before .before .before .before .before .before .before .before .before .before .before .before .before .before .before .before .before .before .before .before .before .before .before .before .pre in
+    omega (arith, c .before .before .before .before .before .before .before .step .kept, left-long _ _ _ (g .0) _ (g .1 .1 .1 .0) _ _ (g .1 .1 .0) _ _ _ _ _ (c .before .before .before .before .before .before .before .before .before .before .before .before .before .loop .inv .0))
 
 same-length-2 : tie.Need-same-length-2 Inv-loop μ-loop
 same-length-2 c =
-    let tasks = c .before .before .before .before .before .before .before .before .before .before .before .before .pre .0 in
-    let room = c .before .before .before .before .before .before .before .before .before .before .before .before .pre .1 .1 in
-    let long = told-long _ _ _ tasks _ _ _ (omega (arith, c .before .before .before .before .before .before .clear .kept, room)) (c .before .before .loop .inv .1) in
-    omega (arith, long, c .before .before .before .before .before .before .clear .kept)
+    let g = c .before .before .before .before .before .before .before .before .before .before .before .before .before .before .before .before .before .before .before .before .before .before .before .before .pre in
+    omega (arith, c .before .before .before .before .before .before .before .step .kept, due-long _ _ _ (g .0) _ (g .1 .1 .1 .0) _ _ (g .1 .1 .0) _ _ _ _ _ (c .before .before .before .before .before .before .before .before .before .before .before .before .before .loop .inv .0))
+
+same-length-3 : tie.Need-same-length-3 Inv-loop μ-loop
+same-length-3 c =
+    let g = c .before .before .before .before .before .before .before .before .before .before .before .before .before .before .before .before .before .before .before .before .before .before .before .before .pre in
+    let long = told-long _ _ _ _ (omega (arith, c .before .before .before .before .before .before .before .before .before .before .before .before .before .before .before .before .clear .kept, g .1 .1 .1 .1)) (c .before .before .before .before .before .before .before .before .before .before .before .before .before .loop .inv .1) in
+    omega (arith, c .before .before .before .before .before .before .before .step .kept, long, c .before .before .before .before .before .before .before .before .before .before .before .before .before .before .before .before .clear .kept)
+
+returns : tie.Need-returns Inv-loop μ-loop
+returns c =
+    let g = c .before .before .before .before .before .before .before .before .before .before .before .before .before .before .before .before .before .before .before .before .before .before .before .before .pre in
+    let e = c .before .before .before .before .before .before .before .step .ensures in
+    let more = told-more _ _ _ (g .0) _ (g .1 .1 .1 .0) _ _ (g .1 .1 .0) _ _ _ _ _ (c .before .before .before .before .before .before .before .before .before .before .before .before .before .loop .inv .0) _ _ _ (g .1 .0) (omega (arith, c .before .before .before .before .before .before .before .before .before .before .before .before .before .before .before .before .clear .kept, g .1 .1 .1 .1)) _ (e .1 .0) (c .before .before .before .before .before .before .before .before .before .before .before .before .before .loop .inv .1) _ refl _ (e .1 .1) in (
+      stops-quiet _ _ _ (g .0) _ (g .1 .1 .1 .0) _ _ (g .1 .1 .0) _ _ _ _ _ (c .before .before .before .before .before .before .before .before .before .before .before .before .before .loop .inv .0) _ _ _ _ (e .0) _ (omega arith) (omega (arith, c .before .before .before .before .before .before .before .before .before .before .before .if1 .taken)) (omega (arith, c .if2 .taken)),
+      told-over _ _ _ _ _ (g .1 .1 .1 .1) (c .before .before .before .before .before .before .before .before .before .before .before .before .before .before .before .before .clear .ensures) (told-all _ _ _ (g .0) _ (g .1 .1 .1 .0) _ _ (g .1 .1 .0) _ _ _ _ _ (c .before .before .before .before .before .before .before .before .before .before .before .before .before .loop .inv .0) _ _ _ _ (e .0) (c .before .before .before .before .before .before .before .before .before .before .before .before .before .before .before .before .before .before .before .before .before .before .before .before .args .deadlines .now) _ _ more (omega (arith, c .before .before .before .before .before .before .before .before .before .before .before .if1 .taken)) (omega (arith, c .if2 .taken))),
+    )
+
+loop-less : tie.Need-loop-less Inv-loop μ-loop
+loop-less c = omega (arith, c .before .before .before .before .before .before .before .before .before .before .before .if1 .taken)
+
+loop-again : tie.Need-loop-again Inv-loop μ-loop
+loop-again c =
+    let g = c .before .before .before .before .before .before .before .before .before .before .before .before .before .before .before .before .before .before .before .before .before .before .before .before .pre in
+    let e = c .before .before .before .before .before .before .before .step .ensures in (
+      playing-more _ _ _ (g .0) _ (g .1 .1 .1 .0) _ _ (g .1 .1 .0) _ _ _ _ _ (c .before .before .before .before .before .before .before .before .before .before .before .before .before .loop .inv .0) _ _ _ _ (e .0) _ (omega arith) (omega (arith, c .before .before .before .before .before .before .before .before .before .before .before .if1 .taken)) (omega (arith, c .if2 .left)),
+      told-more _ _ _ (g .0) _ (g .1 .1 .1 .0) _ _ (g .1 .1 .0) _ _ _ _ _ (c .before .before .before .before .before .before .before .before .before .before .before .before .before .loop .inv .0) _ _ _ (g .1 .0) (omega (arith, c .before .before .before .before .before .before .before .before .before .before .before .before .before .before .before .before .clear .kept, g .1 .1 .1 .1)) _ (e .1 .0) (c .before .before .before .before .before .before .before .before .before .before .before .before .before .loop .inv .1) _ (omega arith) _ (e .1 .1),
+    )
+
+same-length-4 : tie.Need-same-length-4 Inv-loop μ-loop
+same-length-4 c =
+    let g = c .before .before .before .before .before .before .before .before .before .before .before .before .before .pre in
+    left-long _ _ _ (g .0) _ (g .1 .1 .1 .0) _ _ (g .1 .1 .0) _ _ _ _ _ (c .before .before .loop .inv .0)
+
+same-length-5 : tie.Need-same-length-5 Inv-loop μ-loop
+same-length-5 c =
+    let g = c .before .before .before .before .before .before .before .before .before .before .before .before .before .pre in
+    due-long _ _ _ (g .0) _ (g .1 .1 .1 .0) _ _ (g .1 .1 .0) _ _ _ _ _ (c .before .before .loop .inv .0)
+
+same-length-6 : tie.Need-same-length-6 Inv-loop μ-loop
+same-length-6 c =
+    let g = c .before .before .before .before .before .before .before .before .before .before .before .before .before .pre in
+    let long = told-long _ _ _ _ (omega (arith, c .before .before .before .before .before .clear .kept, g .1 .1 .1 .1)) (c .before .before .loop .inv .1) in
+    omega (arith, long, c .before .before .before .before .before .clear .kept)
 
 returns-2 : tie.Need-returns-2 Inv-loop μ-loop
 returns-2 c =
-    let tasks = c .before .before .before .before .before .before .before .before .before .before .before .before .pre .0 in
-    let room = c .before .before .before .before .before .before .before .before .before .before .before .before .pre .1 .1 in
-    told-over _ _ _ tasks _ _ _ _ room (c .before .before .before .before .before .before .clear .ensures) (told-late _ _ _ tasks (c .before .before .loop .at) (c .before .before .before .before .before .before .before .before .before .before .before .before .args .deadlines .now) _ _ (c .before .before .loop .inv .1) (omega (arith, c .before .before .before .largest .ensures, c .if1 .left)))
+    let g = c .before .before .before .before .before .before .before .before .before .before .before .before .before .pre in (
+      stops-late _ _ _ (g .0) _ (g .1 .1 .1 .0) _ _ (g .1 .1 .0) _ _ _ _ _ (c .before .before .loop .inv .0) (omega (arith, c .if1 .left)),
+      told-over _ _ _ _ _ (g .1 .1 .1 .1) (c .before .before .before .before .before .clear .ensures) (told-late _ _ _ (g .0) _ (g .1 .1 .1 .0) _ _ (g .1 .1 .0) _ _ _ _ _ (c .before .before .loop .inv .0) (c .before .before .before .before .before .before .before .before .before .before .before .before .before .args .deadlines .now) _ _ (c .before .before .loop .inv .1) (omega (arith, c .if1 .left))),
+    )
 
 pub play-all-spec : {M : Type 1} → statement M
 play-all-spec =
@@ -102,15 +106,16 @@ play-all-spec =
     Inv-loop
     μ-loop
     clear-requires
-    largest-requires
     loop-holds
-    slice-aggregate-step
-    slice-aggregate-step-2
     step-requires
-    same-length
-    returns
     add-at
+    same-length
+    same-length-2
+    same-length-3
+    returns
     loop-less
     loop-again
-    same-length-2
+    same-length-4
+    same-length-5
+    same-length-6
     returns-2)

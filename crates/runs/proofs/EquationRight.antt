@@ -1,5 +1,5 @@
--- Demand 3: the answer of the equation is the longest response time in any run, and no other number is; and the run in which all is
--- released together is one that takes that long.
+-- Demand 3 over any list of tasks: the answer of the equation is the longest response time in any run, and no other number is; and
+-- the run in which all is released together is one that takes that long.
 -- Assumes nothing.
 use Prim.Native.Nat.{ℕ, zero, suc, _+_, _-_, _≤_, _<_}
 use native.Mathlib.Nat.{le-trans, le-refl, le-of-eq, add-zero}
@@ -13,7 +13,7 @@ use Rattle.equation.proofs.Laws.{answerMeans, smallestExists}
 use Rattle.runs.specs.Jobs.{Job, jobOf, TasksFit, NoDelay}
 use Rattle.runs.specs.Schedule.{Schedule, Finished, LegalSchedule, Run}
 use Rattle.runs.specs.Scheduler.{scheduleOf}
-use Rattle.runs.specs.Statement.{responseOf, OwnJob, releaseOf, FinishedAt, Answers, Demand3, OnlyAnswer}
+use Rattle.runs.specs.Statement.{responseOf, OwnJob, releaseOf, FinishedAt, Answers, EquationRight, OnlyAnswer}
 use Rattle.runs.specs.Synchronous.{synchronous, FirstJob, SynchronousIsWorst}
 use Rattle.runs.proofs.Served.{served-grows}
 use Rattle.runs.proofs.Upper.{finished-in-time}
@@ -102,8 +102,8 @@ module _ (tasks : List Task) (fit : TasksFit tasks) (calm : NoDelay tasks) (i : 
         );
       }
 
-pub demand3 : Demand3
-demand3 tasks fit calm i isTask = answers tasks fit calm i isTask
+pub equationRight : EquationRight
+equationRight tasks fit calm i isTask = answers tasks fit calm i isTask
 
 pub synchronousIsWorst : SynchronousIsWorst
 synchronousIsWorst tasks fit calm ticks s law i j isTask own x h short =
