@@ -1,4 +1,4 @@
--- Blocking by priority ceiling (document 01, "The equation").
+-- Blocking by priority ceiling (SPECIFICATION 4.1; document 01, "The equation").
 -- Assumes nothing.
 use Prim.Native.Nat.{ℕ}
 use mathlib.Core.Bool.{Bool}

@@ -1,4 +1,5 @@
--- A small play, drawn by hand: document 01's fifth table, (4, 1), (6, 2) and (10, 3), whose run is drawn in crates/runs too.
+-- A small play, drawn by hand: the fifth table (SPECIFICATION 12; document 01), (4, 1), (6, 2) and (10, 3), whose run is drawn in
+-- crates/runs too.
 -- Assumes nothing.
 use Prim.Native.Nat.{ℕ}
 use mathlib.Core.Path.{_≡_}

@@ -1,4 +1,4 @@
--- What `play` answers and leaves in its one slice, for any bytes and any slice (document 02, L1).
+-- What `play` answers and leaves in its one slice, for any bytes and any slice (SPECIFICATION 9; document 02, L1).
 -- Assumes nothing.
 use Prim.Native.Nat.{ℕ}
 use mathlib.Core.Path.{_≡_}

@@ -1,4 +1,4 @@
--- That the engine does what a run of document 01 does, at every tick (document 02, L1), over any list of tasks.
+-- That the engine does what a run of document 01 does, at every tick (SPECIFICATION 9; document 02, L1), over any list of tasks.
 -- Assumes nothing.
 use Prim.Native.Nat.{ℕ, _≤_, _<_}
 use mathlib.Core.Path.{_≡_}

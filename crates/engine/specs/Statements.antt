@@ -1,5 +1,5 @@
--- What is claimed of the engine for the bytes of any table (document 02, L1), as named statements about what `play` answers and leaves
--- (`Played`, its contract). The proofs are in proofs/Claims.antt.
+-- What is claimed of the engine for the bytes of any table (SPECIFICATION 9; document 02, L1), as named statements about what `play`
+-- answers and leaves (`Played`, its contract). The proofs are in proofs/Claims.antt.
 -- Assumes nothing.
 use Prim.Native.Nat.{ℕ, _≤_, _<_}
 use mathlib.Core.Path.{_≡_}
@@ -37,7 +37,7 @@ pub record CannotPlay (bytes : List ℕ) (answers : ℕ) : Type 0 where
   pub room : RoomFor bytes answers answers
   pub notPlain : ¬ Plain bytes
 
--- when a refusal is deserved: one of document 01's, with the one slice for both, or 9
+-- when a refusal is deserved: one of 1 to 8 (SPECIFICATION 3), with the one slice for both, or 9
 abbrev pub PlayDeserved : List ℕ → ℕ → Refusal → Type 0
 PlayDeserved bytes answers refusal = Deserved bytes answers answers refusal ⊎ ((refusal ≡ NotPlayable) × CannotPlay bytes answers)
 

@@ -1,4 +1,4 @@
-// Plays a table tick by tick (document 02, L1): the answers and the verdict of the analysis, found another way.
+// Plays a table tick by tick (SPECIFICATION 9; document 02, L1): the answers and the verdict of the analysis, found another way.
 ghost use mathlib.Core.Path.{_≡_};
 ghost use Prim.Native.Nat.{_≤_};
 ghost use lib.ListN.{length};

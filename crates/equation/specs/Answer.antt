@@ -1,4 +1,4 @@
--- The answer (document 01, "The equation"). Nothing here iterates the equation: w is searched for.
+-- The answer (SPECIFICATION 4.3; document 01, "The equation"). Nothing here iterates the equation: w is searched for.
 -- Assumes nothing.
 use Prim.Native.Nat.{ℕ, _+_}
 use mathlib.Core.Bool.{Bool}

@@ -1,4 +1,4 @@
--- Demand, over any list of loads (document 01, "The equation").
+-- Demand, over any list of loads (SPECIFICATION 4.2; document 01, "The equation").
 -- Assumes nothing.
 use Prim.Native.Nat.{ℕ, _+_, _*_}
 use mathlib.Core.List.{List}

@@ -1,4 +1,4 @@
--- The rounded-up quotient.
+-- The rounded-up quotient (SPECIFICATION 4.2).
 -- Assumes nothing.
 use Prim.Native.Nat.{ℕ, _+_, _-_, _/_}
 

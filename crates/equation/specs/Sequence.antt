@@ -1,4 +1,4 @@
--- The written sequence and its rounds (document 01, "The equation"), from any start.
+-- The written sequence and its rounds (SPECIFICATION 5; document 01, "The equation"), from any start.
 -- Assumes nothing.
 use Prim.Native.Nat.{ℕ, zero, suc, _+_, _-_}
 use mathlib.Core.Bool.{Bool}

@@ -14,7 +14,7 @@ loadAt periods costs spreads k =
 abbrev pub loads : List ℕ → List ℕ → List ℕ → ℕ → List Load
 loads periods costs spreads count = tabulate (loadAt periods costs spreads) count
 
--- document 01's limits for one load: "T and C are 1 to 1,000,000", "J is 0 to 1,000,000"
+-- the limits for one load (SPECIFICATION 2.5; document 01): "T and C are 1 to 1,000,000", "J is 0 to 1,000,000"
 pub record LoadFits (l : Load) : Type 0 where
   pub periodLow : 1 ≤ l .period
   pub costHigh : l .cost ≤ 1000000

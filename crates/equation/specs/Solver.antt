@@ -8,7 +8,7 @@ use Rattle.equation.specs.Answer.{answer}
 use Rattle.equation.specs.Sequence as sequence
 use Rattle.equation.specs.Laws.{NotAbove}
 
--- a start that is above no solution, and numbers within document 01's limits
+-- a start that is above no solution, and numbers within the limits of a table (SPECIFICATION 2.5)
 pub record Solvable (base : ℕ) (loads : List Load) (start late deadline : ℕ) : Type 0 where
   pub basePositive : 1 ≤ base
   pub notAbove : NotAbove base loads start

@@ -1,5 +1,5 @@
--- Where the written sequence starts (document 02, L5): the rounds depend on it, and no answer does. For any list of loads; the proofs
--- are in proofs/StartLaws.antt.
+-- Where the written sequence starts (SPECIFICATION 5.1; document 02, L5): the rounds depend on it, and no answer does. For any list of
+-- loads; the proofs are in proofs/StartLaws.antt.
 -- Assumes nothing.
 use Prim.Native.Nat.{ℕ, _+_, _-_, _≤_, _<_}
 use mathlib.Core.Path.{_≡_}

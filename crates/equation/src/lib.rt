@@ -8,7 +8,7 @@ ghost use Rattle.equation.specs.Solver.{Solvable, SolvedBy};
 ghost use Rattle.equation.specs.Starts.{firstTerm};
 use model::Ticks;
 
-// Where the written sequence starts (document 02, L5). Both starts lead to the same answers; the rounds differ.
+// Where the written sequence starts (SPECIFICATION 5.1; document 02, L5). Both starts lead to the same answers; the rounds differ.
 pub enum Start {
     // The default: the task's cost and blocking, and one cost of every more urgent task, as source document 002 has it.
     EveryCost,
@@ -27,7 +27,7 @@ pub fn first_term(start: Start, base: Ticks, urgent: Ticks) -> Ticks
     }
 }
 
-// n / d rounded up: no divide where n is at most d, one elsewhere (document 02, L2), and right at 0 too.
+// n / d rounded up: no divide where n is at most d, one elsewhere (SPECIFICATION 13.2; document 02, L2), and right at 0 too.
 pub fn div_up(n: Ticks, d: Ticks) -> u32
     requires { ⌜ 1 ≤ d .0 ⌝ }
     ensures { λ r. ⌜ r ≡ ceilDiv (n .0) (d .0) ⌝ }

@@ -1,4 +1,5 @@
--- The engine that plays a table (document 02, L1), over numbers alone: what it holds after so many ticks, and what a tick does.
+-- The engine that plays a table (SPECIFICATION 9; document 02, L1), over numbers alone: what it holds after so many ticks, and what a
+-- tick does.
 -- Assumes nothing.
 use Prim.Native.Nat.{ℕ, zero, suc, _+_, _-_, _/_, _%_, _^_, min}
 use mathlib.Core.Bool.{Bool}

@@ -9,7 +9,7 @@ use Rattle.model.specs.Choice.{pick, both}
 use Rattle.model.specs.Lists.{filled, wordOf}
 use Rattle.machine.specs.Machine.{State, released, served, nextPlace, after, earliest, ticksPlayed}
 
--- n tasks stand in the slices, within document 01's limits: "T and C are 1 to 1,000,000. D is 1 to T."
+-- n tasks stand in the slices, within the limits of a table (SPECIFICATION 2.5; document 01): "T and C are 1 to 1,000,000. D is 1 to T."
 pub record TasksHeld (periods costs : List ℕ) (n : ℕ) : Type 0 where
   pub some : 1 ≤ n
   pub few : n ≤ 32

@@ -1,4 +1,4 @@
-// The engine of document 02, L1, over numbers alone: it plays tick after tick, and knows no bytes and no tables.
+// The engine (SPECIFICATION 9; document 02, L1) over numbers alone: it plays tick after tick, and knows no bytes and no tables.
 ghost use mathlib.Core.Path.{_≡_};
 ghost use Prim.Native.Nat.{_+_, _-_, _≤_, _<_};
 ghost use lib.Dec.{eqb, ltb};

@@ -1,5 +1,5 @@
--- What a task, a section row and a table are, as records of numbers (document 01, "The table's bytes"), and what the more urgent
--- tasks ask for.
+-- What a task, a section row and a table are, as records of numbers (SPECIFICATION 1 and 2; document 01, "The table's bytes"), and what
+-- the more urgent tasks ask for.
 -- Assumes nothing.
 use Prim.Native.Nat.{ℕ, _-_}
 use mathlib.Core.Bool.{Bool}
@@ -42,7 +42,7 @@ pub record Load : Type 0 where
   pub cost : ℕ
   pub spread : ℕ
 
--- "latest minus earliest delay inside the interference" (document 02, L4)
+-- "latest minus earliest delay inside the interference" (SPECIFICATION 4.2; document 02, L4)
 abbrev pub spreadOf : Task → ℕ
 spreadOf t = t .latest - t .earliest
 

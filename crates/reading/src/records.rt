@@ -41,7 +41,7 @@ pub struct TaskRecord {
     pub latest: Ticks,
 }
 
-// Where the latest delay begins in a record. J is the latest (document 02, L4).
+// Where the latest delay begins in a record. J is the latest (SPECIFICATION 2.2; document 02, L4).
 fn latest_at(fields: DelayFields) -> usize
     ensures { λ r. ⌜ (r ≡ latestAt fields) × (r ≤ 17) ⌝ }
 {

@@ -56,8 +56,8 @@ fn key(row: RowRecord) -> u32
     (row.place.0 as u32) * 256 + wide(row.semaphore)
 }
 
-// Tests the row that begins at `at`: place, semaphore, length and then its order behind the row before (document 02, L3). The first
-// that is wrong is refused at its own first byte. The place is tested before a cost is looked up by it.
+// Tests the row that begins at `at`: place, semaphore, length and then its order behind the row before (SPECIFICATION 3.1; document 02,
+// L3). The first that is wrong is refused at its own first byte. The place is tested before a cost is looked up by it.
 fn check(row: RowRecord, at: usize, n: usize, costs: &[u32], before: u32) -> Check
     requires { ⌜ at < 65536 ⌝ }
     requires { ⌜ (row .place .0 < 256) × (row .semaphore < 256) ⌝ }

@@ -1,5 +1,5 @@
--- What the analysis answers for each task of a table (document 01, "The equation"; document 02, L4: the answer adds the latest delay, and
--- "every test against the deadline and the bound on rounds use the latest").
+-- What the analysis answers for each task of a table (SPECIFICATION 4.3 and 5; document 01, "The equation"; document 02, L4: the answer
+-- adds the latest delay, and "every test against the deadline and the bound on rounds use the latest").
 -- Assumes nothing.
 use Prim.Native.Nat.{ℕ, _+_}
 use Rattle.model.specs.Tables.{Table, taskOf, loadsOf}

@@ -1,5 +1,5 @@
--- What `analyse_from` answers and leaves in both slices, for any start, bytes and slices (document 01, "Refusals"). `analyse` is that
--- with the default start.
+-- What `analyse_from` answers and leaves in both slices, for any start, bytes and slices (SPECIFICATION 6; document 01, "Refusals").
+-- `analyse` is that with the default start.
 -- Assumes nothing.
 use Prim.Native.Nat.{ℕ}
 use mathlib.Core.Path.{_≡_}

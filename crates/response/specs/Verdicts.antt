@@ -1,4 +1,4 @@
--- What each verdict says in the documents' words: a number, and the place where it has one.
+-- What each verdict says (SPECIFICATION 11): a number, and the place where it has one.
 -- Assumes nothing.
 use Prim.Native.Nat.{ℕ, _+_, _*_}
 use Rattle.tables.specs.Refusals.{numberOf, placeOf}

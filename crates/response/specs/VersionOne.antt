@@ -1,5 +1,5 @@
--- That version 1 tables keep their answers and rounds (document 02, L4): document 01's bytes and its equation, with J in both uses, as
--- document 01 writes them, beside what `analyse_from` leaves. The proof is in proofs/VersionOne.antt.
+-- That version 1 tables keep their answers and rounds (SPECIFICATION 13.4; document 02, L4): document 01's bytes and its equation, with J
+-- in both uses, as document 01 writes them, beside what `analyse_from` leaves. The proof is in proofs/VersionOne.antt.
 -- Assumes nothing.
 use Prim.Native.Nat.{ℕ, suc, _+_, _*_, _≤_, _<_}
 use mathlib.Core.Path.{_≡_}

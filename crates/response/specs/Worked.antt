@@ -1,4 +1,5 @@
--- The worked tables that document 01 marks *, with the ones of document 02's L4 and L5, as rows of one list under one statement.
+-- The worked tables that are marked * (SPECIFICATION 12; document 01, "Worked tables", and document 02, L4 and L5), as rows of one list
+-- under one statement.
 -- Assumes nothing.
 use Prim.Native.Nat.{ℕ, suc, _≤_}
 use mathlib.Core.Path.{_≡_}

@@ -59,7 +59,7 @@ pub fn analyse(table: &[u8], answers: &mut [u32], rounds: &mut [u32]) -> Verdict
     analyse_from(Start::EveryCost, table, answers, rounds)
 }
 
-// The same, with the rounds from either start (document 02, L5). Verdict and answers do not depend on it.
+// The same, with the rounds from either start (SPECIFICATION 5.1; document 02, L5). Verdict and answers do not depend on it.
 pub fn analyse_from(start: Start, table: &[u8], answers: &mut [u32], rounds: &mut [u32]) -> Verdict
     ensures { λ r. ⌜ Outcome start (lending (now (table .entry)) (now (answers .entry)) (now (rounds .entry))) (leaving r (now (answers .exit)) (now (rounds .exit))) ⌝ }
 {

@@ -1,5 +1,5 @@
--- How often a task is released in a window, and what it may ask for there: the arrival rule "two releases of one task are at least T
--- apart" alone, and no schedule.
+-- How often a task is released in a window, and what it may ask for there: the arrival rule "Two releases of one task are at least T
+-- apart." alone, and no schedule.
 -- Assumes nothing.
 use Prim.Native.Nat.{ℕ, zero, suc, _+_, _*_, _≤_, _<_}
 use native.Mathlib.Nat.{zero-mul, suc-mul, add-zero, mul-one, mul-le-mul-left, le-trans}

@@ -1,4 +1,4 @@
--- Tasks that fit, and the jobs of a run (document 01, "The table's bytes" and "A run").
+-- Tasks that fit, and the jobs of a run (SPECIFICATION 7.1; document 01, "The table's bytes" and "A run").
 -- Assumes nothing.
 use Prim.Native.Nat.{ℕ, suc, _+_, _≤_, _<_}
 use mathlib.Core.Path.{_≡_}

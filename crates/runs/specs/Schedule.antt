@@ -1,4 +1,4 @@
--- What the ticks of a run serve (document 01, "A run"): laws, and no program.
+-- What the ticks of a run serve (SPECIFICATION 7.2; document 01, "A run"): laws, and no program.
 -- Assumes nothing.
 use Prim.Native.Nat.{ℕ, zero, suc, _+_, _≤_, _<_}
 use mathlib.Core.Path.{_≡_}

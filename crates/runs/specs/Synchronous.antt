@@ -1,5 +1,5 @@
--- The run in which all tasks are released together (document 02, L1): its jobs, what each task has left at a tick, and that no
--- run is worse.
+-- The run in which all tasks are released together (SPECIFICATION 7.3; document 02, L1): its jobs, what each task has left at a tick, and
+-- that no run is worse.
 -- Assumes nothing.
 use Prim.Native.Nat.{ℕ, zero, suc, _*_, _-_, _≤_, _<_}
 use mathlib.Core.Path.{_≡_}

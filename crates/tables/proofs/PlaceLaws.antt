@@ -50,7 +50,7 @@ fault-place span bytes r head f =
       records-end bytes head,
     )
 
--- "1–2: length of the whole table in bytes": no place reaches past what two bytes can state
+-- bytes 1 and 2 are the "length of the whole table in bytes": no place reaches past what two bytes can state
 pub refusal-place : (span : ℕ) (bytes : List ℕ) (answers rounds : ℕ) (r : Refusal) → DeservedSpanning span bytes answers rounds r → placeOf r < 65536
 refusal-place span bytes answers rounds TooShort d = omega arith
 refusal-place span bytes answers rounds UnknownVersion d = omega arith

@@ -1,4 +1,4 @@
--- The refusals, as a list of checks in document 01's order ("Refusals").
+-- The refusals, as a list of checks in their order (SPECIFICATION 3.1; document 01, "Refusals").
 -- Assumes nothing.
 use Prim.Native.Nat.{ℕ}
 use mathlib.Core.Bool.{Bool}

@@ -1,4 +1,5 @@
--- Which refusal a broken rule deserves, and the place that it names (document 01, "Refusals", as document 02, L3, amends its places).
+-- Which refusal a broken rule deserves, and the place that it names (SPECIFICATION 3; document 01, "Refusals", as document 02, L3, amends
+-- its places).
 -- Assumes nothing.
 use Prim.Native.Nat.{ℕ, _<_}
 use mathlib.Core.Path.{_≡_}

@@ -1,5 +1,5 @@
--- The fields that have a rule, in the order in which they are tested, and the refusal of each, at its first byte (document 02, L3
--- and L4).
+-- The fields that have a rule, in the order in which they are tested, and the refusal of each, at its first byte (SPECIFICATION 3.1 and
+-- 3.3; document 02, L3 and L4).
 -- Assumes nothing.
 use Prim.Native.Nat.{ℕ, _+_}
 use mathlib.Core.List.{List, [], _∷_}

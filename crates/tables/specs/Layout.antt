@@ -1,5 +1,5 @@
--- House form, versions 1 and 2: which bytes hold which field, and the table that the bytes mean (document 01, "The table's bytes";
--- document 02, L4).
+-- House form, versions 1 and 2: which bytes hold which field, and the table that the bytes mean (SPECIFICATION 2;
+-- document 01, "The table's bytes"; document 02, L4).
 -- Assumes nothing.
 use Prim.Native.Nat.{ℕ, _+_, _*_, _≤_}
 use mathlib.Core.Bool.{true, false}
@@ -38,7 +38,8 @@ taskCountAt = 3
 abbrev pub rowCountAt : ℕ
 rowCountAt = 4
 
--- "1–2: length of the whole table in bytes", "3: n, number of tasks", "4: m, number of section rows"
+-- Byte 0 is the version, bytes 1 and 2 are the "length of the whole table in bytes", byte 3 is "n, number of tasks", byte 4 "m, number of
+-- section rows" (SPECIFICATION 2.1).
 abbrev pub versionOf : List ℕ → ℕ
 versionOf bytes = byteAt bytes 0
 

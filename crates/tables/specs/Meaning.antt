@@ -1,4 +1,5 @@
--- The rules of document 01, and of document 02's L4, without any test, field by field.
+-- The rules of the table's bytes (SPECIFICATION 2; document 01, "The table's bytes", and document 02, L4), without any test, field by
+-- field.
 -- Assumes nothing.
 use Prim.Native.Nat.{ℕ, suc, _≤_, _<_}
 use mathlib.Core.Path.{_≡_}

@@ -1,4 +1,5 @@
--- The number and the place of each refusal (document 01, "Refusals"; the places as document 02, L3, amends them).
+-- The number and the place of each refusal (SPECIFICATION 3.2 and 3.3; document 01, "Refusals"; the places as document 02, L3, amends
+-- them).
 -- Assumes nothing.
 use Prim.Native.Nat.{ℕ}
 use mathlib.Core.Bool.{Bool, true, false}

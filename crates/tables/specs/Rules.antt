@@ -1,4 +1,4 @@
--- The rules of document 01 ("The table's bytes"), as tests.
+-- The rules of the table's bytes (SPECIFICATION 2; document 01, "The table's bytes"), as tests.
 -- Assumes nothing.
 use Prim.Native.Nat.{ℕ, _*_, _-_, min}
 use mathlib.Core.Bool.{Bool}

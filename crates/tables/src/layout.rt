@@ -1,4 +1,4 @@
-// The layout of a table's records, decided by the version byte (document 02, L4). Nothing else looks at the version.
+// The layout of a table's records, decided by the version byte (SPECIFICATION 2.2; document 02, L4). Nothing else looks at the version.
 ghost use mathlib.Core.Path.{_≡_};
 ghost use Rattle.tables.specs.Layout.{layoutFor};
 

@@ -39,7 +39,7 @@ pub const SEMAPHORE_AT: usize = 1;
 
 pub const LONGEST_AT: usize = 2;
 
-// A row out of order is told at its first byte (document 02, L3).
+// A row out of order is told at its first byte (SPECIFICATION 3.3; document 02, L3).
 pub const ORDER_AT: usize = 0;
 
 // Limits: the number of rows, a period, a cost or a delay, a semaphore.
@@ -49,14 +49,14 @@ pub const MOST_TICKS: u32 = 1000000;
 
 pub const MOST_SEMAPHORE: u32 = 16;
 
-// How many periods a deadline may span: "D is 1 to T" (document 01).
+// How many periods a deadline may span: "D is 1 to T" (SPECIFICATION 2.3; document 01).
 pub const ONE_PERIOD: u32 = 1;
 
 // A byte's place in the table, counted from its first byte. It is no task's place.
 pub struct Offset(pub usize);
 
-// Why a table is refused, in the order of document 01's table, and where a field is at fault its first byte (document 02, L3). The
-// last one is document 02's (L1): the analysis never gives it.
+// Why a table is refused (SPECIFICATION 3; document 01, "Refusals"), and where a field is at fault its first byte (document 02, L3). The
+// last one is the engine's (document 02, L1): the analysis never gives it.
 pub enum Refusal {
     TooShort,
     UnknownVersion,
@@ -85,7 +85,7 @@ pub fn is_clean(check: Check) -> bool
     }
 }
 
-// The refusal's number in document 01.
+// The refusal's number (SPECIFICATION 3.2).
 pub fn number(refusal: Refusal) -> u32
     ensures { λ r. ⌜ r ≡ numberOf refusal ⌝ }
 {
