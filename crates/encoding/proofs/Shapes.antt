@@ -1,16 +1,18 @@
 -- A table of each shape: tasks of one tick in order, and rows of one tick, 16 for a task.
 -- Assumes nothing.
-use Prim.Native.Nat.{ℕ, suc, _+_, _*_, _-_, _/_, _%_, _≤_, _<_}
+use Prim.Native.Nat.{ℕ, zero, suc, _+_, _*_, _-_, _/_, _%_, _≤_, _<_}
 use native.Mathlib.Omega.{arith}
+use native.Mathlib.Decide.{ℕ-discrete}
 use mathlib.Core.Path.{_≡_, refl, sym, _∙_, ap}
 use mathlib.Core.Logic.{_⊎_, inl, inr}
+use mathlib.Core.List.{List}
 use lib.ListN.{length, getD}
 use Rattle.model.specs.Lists.{tabulate}
 use Rattle.model.specs.Tables.{Task, Row, Table, noTask, taskOf}
 use Rattle.model.proofs.Lists.{length-tabulate, getD-tabulate}
 use Rattle.tables.specs.Fields.{RecordField, periodField, costField, deadlineField, earliestField, latestField, priorityField, RowField, placeField, semaphoreField, longestField, orderField}
-use Rattle.tables.specs.Layout.{layoutFor, taskCount, rowCount}
-use Rattle.tables.specs.Meaning.{Within, TaskFieldRight, SectionFieldRight}
+use Rattle.tables.specs.Layout.{layoutFor, taskCount, rowCount, rowAt}
+use Rattle.tables.specs.Meaning.{Within, TaskFieldRight, SectionFieldRight, TableRight}
 use Rattle.encoding.specs.Bytes.{encode}
 use Rattle.encoding.specs.Statements.{noRow, rowOf, Fits, AllShapes}
 use Rattle.encoding.proofs.RuleLaws.{fields-same, sections-same}
@@ -75,13 +77,44 @@ module _ (n : ℕ) where
       row-at : (k : ℕ) → k < m → shapeRow k ≡ rowOf (tabulate shapeRow m) k
       row-at k h = sym (getD-tabulate shapeRow m k noRow h)
 
+-- the rows of accepted bytes, numbered by place and semaphore, rise with each row: 16 numbers for each task
+module _ (bytes : List ℕ) (right : TableRight bytes) where
+  numbered : ℕ → ℕ
+  numbered k = rowAt bytes k .place * 16 + rowAt bytes k .semaphore
+
+  above : (k : ℕ) → k < rowCount bytes → k < numbered k
+  unfolding numbered
+  above zero h = omega (arith, right .rows 0 h semaphoreField .low)
+  above (suc k) h =
+      let rise = right .rows (suc k) h orderField k refl in
+      let before = above k (omega arith) in
+      let high = right .rows k (omega arith) semaphoreField .high in
+      elim (ℕ-discrete (rowAt bytes k .place) (rowAt bytes (suc k) .place)) [
+        | yes same ↦ omega (arith, rise .thenSemaphore same, before)
+        | no other ↦ omega (arith, rise .byPlace, before, high, right .rows (suc k) h semaphoreField .low)
+      ]
+
+  few-rows : rowCount bytes ≤ 16 * taskCount bytes
+  unfolding numbered
+  few-rows = go (rowCount bytes) refl
+    where
+      go : (m : ℕ) → m ≡ rowCount bytes → m ≤ 16 * taskCount bytes
+      go zero e = omega arith
+      go (suc k) e =
+          let inside : k < rowCount bytes = omega arith in
+          omega (arith, above k inside, right .rows k inside placeField, right .rows k inside semaphoreField .high)
+
 pub allShapes : AllShapes
-allShapes version n m known few rows most = (
-  encode version (shape n m),
-  record {
-    accepted = encoded .accepted version (shape n m) (shape-fits n version m known few rows (omega arith));
-    inVersion = refl;
-    tasks = length-tabulate (shapeTask n) n;
-    rows = length-tabulate (shapeRow n) m;
-  },
-)
+allShapes =
+    record {
+      exist = λ version n m known few rows most. (
+        encode version (shape n m),
+        record {
+          accepted = encoded .accepted version (shape n m) (shape-fits n version m known few rows (omega arith));
+          inVersion = refl;
+          tasks = length-tabulate (shapeTask n) n;
+          rows = length-tabulate (shapeRow n) m;
+        },
+      );
+      noOthers = λ version n m bytes s. omega (arith, few-rows bytes (s .accepted), s .tasks, s .rows);
+    }

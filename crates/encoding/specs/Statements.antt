@@ -54,8 +54,9 @@ pub record HasShape (version n m : ℕ) (bytes : List ℕ) : Type 0 where
   pub tasks : taskCount bytes ≡ n
   pub rows : rowCount bytes ≡ m
 
--- All shapes exist, 32 tasks and 64 rows among them. (A task has a row for each of 16 semaphores at most, since rows strictly rise.)
-abbrev pub AllShapes : Type 0
-AllShapes =
-    (version n m : ℕ) → (version ≡ 1) ⊎ (version ≡ 2) → Within 1 32 n → Within 0 64 m → m ≤ 16 * n →
-    (bytes : List ℕ) × HasShape version n m bytes
+-- Which shapes exist: all with 1 to 32 tasks and 0 to 64 rows, 32 and 64 among them, but that a task has a row for each of 16 semaphores
+-- at most, since rows strictly rise.
+pub record AllShapes : Type 0 where
+  pub exist : (version n m : ℕ) → (version ≡ 1) ⊎ (version ≡ 2) → Within 1 32 n → Within 0 64 m → m ≤ 16 * n →
+      (bytes : List ℕ) × HasShape version n m bytes
+  pub noOthers : (version n m : ℕ) (bytes : List ℕ) → HasShape version n m bytes → m ≤ 16 * n
