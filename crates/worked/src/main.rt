@@ -16,6 +16,7 @@ mod starts;
 
 use comparing::same_outcome;
 use libc::STDOUT_FILENO;
+use model::Place;
 use printing::append;
 use response::Start;
 use response::Verdict;
@@ -135,26 +136,26 @@ fn judge(
         &mut out,
         heard_end,
         old_rounds,
-        first,
+        first.0,
         same_outcome(verdict, old, answers, old_answers) && stay(old_rounds, first),
     );
     io::write_all(STDOUT_FILENO, &out[..end]);
 }
 
 // The first word that is not to be written: a refusal changes no word.
-fn first_to_stay(table: &[u8], verdict: Verdict) -> usize {
+fn first_to_stay(table: &[u8], verdict: Verdict) -> Place {
     match verdict {
-        Verdict::Refused(_) => 0,
-        Verdict::Schedulable => printing::task_count(table),
-        Verdict::Late(_) => printing::task_count(table),
+        Verdict::Refused(_) => Place(0),
+        Verdict::Schedulable => Place(printing::task_count(table)),
+        Verdict::Late(_) => Place(printing::task_count(table)),
     }
 }
 
 // Do the words from `first` on still hold the filler?
-pub fn stay(words: &[u32], first: usize) -> bool
-    ensures { λ r. ⌜ r ≡ stays (now (words .entry)) first ⌝ }
+pub fn stay(words: &[u32], first: Place) -> bool
+    ensures { λ r. ⌜ r ≡ stays (now (words .entry)) (first .0) ⌝ }
 {
-    let mut i = first;
+    let mut i = first.0;
     while i < words.len() {
         if words[i] != FILLER {
             return false;
