@@ -1,3 +1,4 @@
 pub mod AppendLaws
 pub mod NumberLaws
 pub mod TextLaws
+pub mod AnsweredLaws

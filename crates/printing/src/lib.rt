@@ -4,9 +4,11 @@ ghost use Prim.Native.Nat.{_<_};
 ghost use lib.ListN.{getD};
 ghost use Rattle.tables.specs.Layout.{taskCount};
 ghost use Rattle.printing.specs.Appended.{Appended};
+ghost use Rattle.printing.specs.Answered.{answerText};
 ghost use Rattle.printing.specs.Text.{textOf, verdictLine, lineWithNumber, refusedLine, tasksText, taskLine, responseText, deadlineShown};
 use model::Place;
 use model::Ticks;
+use response::Start;
 use response::Verdict;
 use tables::DEADLINE_AT;
 use tables::HEAD_SIZE;
@@ -22,6 +24,16 @@ pub use pieces::append_with_number;
 
 // Bytes enough for the text of any table: 32 task lines of at most 52 bytes, the first and the last line, and what `worked` adds.
 pub const ROOM: usize = 2048;
+
+// Analyses the table from either start, and puts the text of what the analysis says at the buffer's beginning; answers where it ends.
+pub fn answer_text(start: Start, table: &[u8], out: &mut [u8]) -> usize
+    ensures { λ r. ⌜ Appended (now (out .entry)) 0 (answerText start (now (table .entry))) r (now (out .exit)) ⌝ }
+{
+    let mut answers = [0u32; 32];
+    let mut rounds = [0u32; 32];
+    let verdict = response::analyse_from(start, table, &mut answers, &mut rounds);
+    text(out, 0, table, verdict, &answers, &rounds)
+}
 
 // Appends the text at `at`, and answers where the next byte goes.
 pub fn text(
