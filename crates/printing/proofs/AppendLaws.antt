@@ -63,6 +63,16 @@ bytes-behind old at more n =
           ∙ sym (drop-past (at + length more + n) old (omega arith))
     ]
 
+-- what is appended to nothing leaves the bytes behind its end as they were
+pub behind : {old new more : List ℕ} {end : ℕ} → Appended old 0 more end new → length more ≤ length old → drop end new ≡ drop end old
+behind {old} {new} {more} {end} a h =
+    let e : end ≡ endAfter old 0 more + 0 = omega (arith, a .endIs) in
+    let f : 0 + length more + 0 ≡ end = omega (arith, a .endIs) in
+    ap (λ (k : ℕ). drop k new) e
+    ∙ ap (drop (endAfter old 0 more + 0)) (a .newIs)
+    ∙ bytes-behind old 0 more 0
+    ∙ ap (λ (k : ℕ). drop k old) f
+
 -- past the buffer nothing changes
 past : (old : List ℕ) (at : ℕ) (more : List ℕ) → length old ≤ at → bytesAfter old at more ≡ old
 past old at more h =

@@ -19,7 +19,7 @@ use Rattle.printing.specs.Text.{isHeld, decimalOf}
 power-more : (i j : ℕ) → i ≤ j → 10 ^ i ≤ 10 ^ j
 power-more i j h = pow-le-pow-right (zero-lt-suc 9) h
 
-is-held : (number count : ℕ) → number < 10 ^ count → isHeld number count ≡ true
+pub is-held : (number count : ℕ) → number < 10 ^ count → isHeld number count ≡ true
 is-held number count h =
     elim (ltb? number (10 ^ count)) [
       | inl p ↦ p .0

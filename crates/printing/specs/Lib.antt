@@ -1,3 +1,4 @@
 pub mod Appended
 pub mod Text
 pub mod Answered
+pub mod Longest
