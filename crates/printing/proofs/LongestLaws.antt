@@ -8,7 +8,7 @@ use mathlib.Core.Path.{_≡_, refl, sym, _∙_, ap, subst}
 use mathlib.Core.Logic.{inl, inr}
 use mathlib.Core.List.{List, [], _∷_, _++_}
 use lib.Dec.{ltb}
-use lib.ListN.{length, getD, take, drop, length-append}
+use lib.ListN.{length, getD, take, drop, length-append, length-take}
 use lib.Seq.{take-all}
 use Rattle.model.specs.Lists.{total, wordOf, sumOf}
 use Rattle.model.specs.Search.{firstFrom}
@@ -42,7 +42,7 @@ use Rattle.printing.specs.Appended.{Appended}
 use Rattle.printing.specs.Text.{bytesOf, decimalOf, withNumber, lineWithNumber, refusedLine, deadlineShown, taskLines, tasksText, verdictLine, textOf}
 use Rattle.printing.specs.Answered.{zeros, answerText}
 use Rattle.printing.specs.Longest.{longest, TextFits, millionRecords, LongestReached, Whole, TextWhole}
-use Rattle.printing.proofs.AppendLaws.{text-is, behind}
+use Rattle.printing.proofs.AppendLaws.{text-is, behind, part-length}
 use Rattle.printing.proofs.LengthLaws.{digitCount, few-digits, number-long, line-long, Small, lines-long, total-longer}
 
 -- a refusal's line
@@ -193,3 +193,11 @@ whole old text end new h a =
 pub textWhole : TextWhole
 textWhole start bytes old end new room a =
     whole old (answerText start bytes) end new (omega (arith, answer-text-long start bytes)) a
+
+-- a whole text ends within the buffer
+pub whole-within : {old text new : List ℕ} {end : ℕ} → Whole old text end new → end ≤ length new
+whole-within {old} {text} {new} {end} w = omega (arith, w .endIs, ap length (w .textIs), length-take end new)
+
+-- so that it can be lent as a part
+pub whole-part : {old text new : List ℕ} {end : ℕ} → Whole old text end new → end ≡ length (take end new)
+whole-part {old} {text} {new} {end} w = part-length end new (whole-within w)

@@ -22,8 +22,8 @@ pub use pieces::append;
 use pieces::append_number;
 pub use pieces::append_with_number;
 
-// Bytes enough for the text of any table: 32 task lines of at most 52 bytes, the first and the last line, and what `worked` adds.
-pub const ROOM: usize = 2048;
+// Bytes enough for the text of any table, and for the longest no more than enough: `longest` of specs/Longest.antt.
+pub const LONGEST: usize = 1675;
 
 // Analyses the table from either start, and puts the text of what the analysis says at the buffer's beginning; answers where it ends.
 pub fn answer_text(start: Start, table: &[u8], out: &mut [u8]) -> usize

@@ -25,6 +25,10 @@ use tables::fields::count;
 // What each lent word holds before a call, so that a word that stays can be seen to stay.
 const FILLER: u32 = 2779096485;
 
+// Bytes enough for all lines of an entry: its table's text, and at most 27 with its number, 8 on the words that stay, 34 of the engine
+// and 273 with the rounds from the old start.
+const ROOM: usize = printing::LONGEST + 342;
+
 fn main() {
     let file = os::open_read(b"tables");
     if file < 0 {
@@ -121,7 +125,7 @@ fn judge(
     let verdict = response::analyse(table, answers, rounds);
     let old = response::analyse_from(Start::OwnCost, table, old_answers, old_rounds);
     let heard = engine::play(table, played);
-    let mut out = [0u8; printing::ROOM];
+    let mut out = [0u8; ROOM];
     let named = printing::line_with_number(&mut out, 0, b"table ", number);
     let told = printing::text(&mut out, named, table, verdict, answers, rounds);
     let first = first_to_stay(table, verdict);
