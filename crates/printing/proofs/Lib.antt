@@ -4,3 +4,4 @@ pub mod TextLaws
 pub mod AnsweredLaws
 pub mod LengthLaws
 pub mod LongestLaws
+pub mod SampleTexts

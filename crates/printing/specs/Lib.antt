@@ -2,3 +2,4 @@ pub mod Appended
 pub mod Text
 pub mod Answered
 pub mod Longest
+pub mod Samples
