@@ -1,11 +1,11 @@
 -- The text of what a call of the analysis said and left is the text of what it says of those bytes.
 -- Assumes nothing.
 use Prim.Native.Nat.{ℕ}
-use mathlib.Core.Path.{_≡_, sym, _∙_, ap}
+use mathlib.Core.Path.{_≡_, _∙_, ap}
 use mathlib.Core.List.{List}
 use Rattle.equation.specs.declared.Start.{Start}
 use Rattle.answering.specs.declared.Verdict.{Verdict}
-use Rattle.response.specs.Outcome.{Outcome, verdictOf, answersAfter, roundsAfter}
+use Rattle.response.specs.Outcome.{Outcome, verdictOf, answersAfter}
 use Rattle.printing.specs.Text.{textOf}
 use Rattle.printing.specs.Answered.{zeros, answerText}
 

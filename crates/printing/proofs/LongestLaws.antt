@@ -1,30 +1,25 @@
 -- The longest text: what the analysis leaves is small enough for the lines, and a verdict's line is short.
 -- Assumes nothing.
-use Prim.Native.Nat.{ℕ, zero, suc, _+_, _-_, _*_, _^_, _≤_, _<_}
+use Prim.Native.Nat.{ℕ, _+_, _≤_, _<_}
 use native.Mathlib.Omega.{arith}
 use native.Mathlib.Decide.{decLe}
 use native.Mathlib.Nat.{sub-zero}
-use mathlib.Core.Path.{_≡_, refl, sym, _∙_, ap, subst}
+use mathlib.Core.Path.{_≡_, refl, _∙_, ap}
 use mathlib.Core.Logic.{inl, inr}
-use mathlib.Core.List.{List, [], _∷_, _++_}
-use lib.Dec.{ltb}
-use lib.ListN.{length, getD, take, drop, length-append, length-take}
+use mathlib.Core.List.{List}
+use lib.ListN.{length, getD, take, length-append, length-take}
 use lib.Seq.{take-all}
 use Rattle.model.specs.Lists.{total, wordOf, sumOf}
 use Rattle.model.specs.Search.{firstFrom}
 use Rattle.model.specs.Tables.{Task, taskOf, loadsOf}
 use Rattle.model.proofs.Tests.{ltb?}
-use Rattle.tables.specs.declared.Check.{Check}
-use Rattle.tables.specs.declared.Check.the-variants as check
 use Rattle.tables.specs.declared.Refusal.{Refusal}
 use Rattle.tables.specs.declared.Refusal.the-variants.{TooShort, UnknownVersion, CountOutOfRange, LengthsDiffer, NumberOutOfRange, PriorityOutOfOrder, SectionRow, NoRoom, NotPlayable}
 use Rattle.tables.specs.Fields.{taskCountField, costField, deadlineField}
 use Rattle.tables.specs.Layout.{layoutFor, layoutOf, taskCount, recordStart, deadlineAt, deadlineIn, tasksOf, tableOf}
 use Rattle.tables.specs.Refusals.{numberOf, placeOf}
-use Rattle.tables.specs.Checks.{tableCheck}
 use Rattle.tables.specs.Meaning.{TableRight, RoomFor}
 use Rattle.tables.proofs.LayoutLaws.{layout-sound}
-use Rattle.tables.proofs.CheckLaws.{table-right}
 use Rattle.equation.specs.declared.Start.{Start}
 use Rattle.equation.specs.Laws.{costOf}
 use Rattle.equation.specs.Starts.{firstTerm}
@@ -39,7 +34,7 @@ use Rattle.response.proofs.Demands.{demand1, demand2}
 use Rattle.response.proofs.PlaceLaws.{verdict-place}
 use Rattle.response.proofs.TableLaws.{task-is}
 use Rattle.printing.specs.Appended.{Appended}
-use Rattle.printing.specs.Text.{bytesOf, decimalOf, withNumber, lineWithNumber, refusedLine, deadlineShown, taskLines, tasksText, verdictLine, textOf}
+use Rattle.printing.specs.Text.{bytesOf, decimalOf, withNumber, lineWithNumber, refusedLine, deadlineShown, taskLines, tasksText}
 use Rattle.printing.specs.Answered.{zeros, answerText}
 use Rattle.printing.specs.Longest.{longest, TextFits, millionRecords, LongestReached, Whole, TextWhole}
 use Rattle.printing.proofs.AppendLaws.{text-is, behind, part-length}

@@ -1,6 +1,6 @@
 -- The digits that `io::decimal` gives are those of `decimalOf`.
 -- Assumes nothing.
-use Prim.Native.Nat.{ℕ, _+_, _-_, _^_, _≤_, _<_}
+use Prim.Native.Nat.{ℕ, _-_, _^_, _≤_, _<_}
 use native.Mathlib.Omega.{arith}
 use native.Mathlib.Nat.{pow-le-pow-right, zero-lt-suc}
 use native.Mathlib.Decide.{decLe}
@@ -8,10 +8,8 @@ use mathlib.Core.Path.{_≡_, refl, sym, _∙_, ap}
 use mathlib.Core.Bool.{true, false}
 use mathlib.Core.Logic.{inl, inr}
 use mathlib.Core.List.{List}
-use lib.Dec.{ltb}
 use lib.ListN.{take}
 use Rattle.io.specs.Digits.{digits, Fewest}
-use Rattle.model.specs.Search.{firstFrom}
 use Rattle.model.proofs.Search.{Found, finds}
 use Rattle.model.proofs.Tests.{ltb?}
 use Rattle.printing.specs.Text.{isHeld, decimalOf}

@@ -13,8 +13,8 @@ use Rattle.printing.specs.Appended.{Appended}
 use Rattle.printing.specs.Text.{textOf}
 use Rattle.printing.specs.Answered.{answerText}
 
--- "tasks 32" and "schedulable" with their newlines have 9 and 12 bytes. A task's line has 50 besides its place, since answer, deadline
--- and rounds are at most 1,000,000. The places 0 to 31 have 54 digits.
+-- The lines `tasks 32` and `schedulable` have 9 and 12 bytes. A task's line has 50 besides its place, since answer, deadline and rounds
+-- are at most 1,000,000; and the places 0 to 31 have 54 digits.
 abbrev pub longest : ℕ
 longest = 1675
 
@@ -24,8 +24,8 @@ TextFits =
     (start : Start) (bytes answers rounds : List ℕ) (verdict : Verdict) (answersLeft roundsLeft : List ℕ) →
     Outcome start bytes answers rounds verdict answersLeft roundsLeft → length (textOf bytes verdict answersLeft roundsLeft) ≤ longest
 
--- The digits alone allow no smaller number. Here are 32 tasks (1000000, 1, 1000000), and the text says that each answers 1,000,000
--- after 1,000,000 rounds. This is about the text: the analysis never gives such answers together.
+-- The digits alone allow no smaller number: here are 32 tasks (1000000, 1, 1000000), and the text says that each answers 1,000,000 after
+-- 1,000,000 rounds. This is about the text, and not about which answers the analysis can give together.
 abbrev pub millionRecord : ℕ → List ℕ
 millionRecord priority =
     priority
