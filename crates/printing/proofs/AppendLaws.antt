@@ -2,44 +2,136 @@
 -- Assumes nothing.
 use Prim.Native.Nat.{ℕ, zero, suc, _+_, _-_, _≤_, _<_, min}
 use native.Mathlib.Omega.{arith}
-use native.Mathlib.Nat.{add-zero}
+use native.Mathlib.Nat.{add-zero, zero-sub, sub-zero, suc-sub-suc}
 use native.Mathlib.Numerals.{add-one}
 use native.Mathlib.Decide.{decLe}
 use mathlib.Core.Path.{_≡_, refl, sym, _∙_, ap, subst}
 use mathlib.Core.List.{List, [], _∷_, _++_, append-assoc, append-nil}
-use lib.ListN.{length, take, drop, set, getD, length-set, length-take}
-use lib.Seq.{paste, paste-zero, paste-suc, take-paste, take-all, take-length, take-append-le, take-append-add, take-append-seam, length-take-le}
-use Rattle.printing.specs.Appended.{Appended}
+use lib.ListN.{length, take, drop, set, getD, length-set, length-take, length-drop, length-append, drop-of-length-le, take-append-drop}
+use lib.Seq.{paste, paste-zero, paste-suc, take-all, take-length, take-at, drop-at, take-nil, drop-drop, length-take-le}
+use Rattle.printing.specs.Appended.{endAfter, bytesAfter, Appended, NoSecondText}
 
--- what has no room in a part has none in the whole
-take-part : (n : ℕ) (xs ys : List ℕ) → take n (take n xs ++ ys) ≡ take n (xs ++ ys)
-take-part zero xs ys = refl
-take-part (suc n) [] ys = refl
-take-part (suc n) (x ∷ xs) ys = ap (λ (zs : List ℕ). x ∷ zs) (take-part n xs ys)
+pub noSecondText : NoSecondText
+noSecondText old at more end other new another a b = (a .endIs ∙ sym (b .endIs), a .newIs ∙ sym (b .newIs))
+
+drop-past : (n : ℕ) (xs : List ℕ) → length xs ≤ n → drop n xs ≡ []
+drop-past n xs h = drop-of-length-le xs h
+
+-- what stands before the bytes that stay has the length that it should
+head-long : (old : List ℕ) (at : ℕ) (more : List ℕ) → at ≤ length old → length (take at old ++ take (length old - at) more) ≡ endAfter old at more
+head-long old at more h =
+    length-append (take at old) (take (length old - at) more)
+    ∙ omega (arith, length-take at old, length-take (length old - at) more)
+
+bytes-long : (old : List ℕ) (at : ℕ) (more : List ℕ) → length (bytesAfter old at more) ≡ length old
+bytes-long old at more =
+    length-append (take at old ++ take (length old - at) more) (drop (at + length more) old)
+    ∙ omega (
+      arith,
+      length-append (take at old) (take (length old - at) more),
+      length-take at old,
+      length-take (length old - at) more,
+      length-drop (at + length more) old,
+    )
+
+-- the buffer keeps its length
+pub long : {old new more : List ℕ} {at end : ℕ} → Appended old at more end new → length new ≡ length old
+long {old} {new} {more} {at} a = ap length (a .newIs) ∙ bytes-long old at more
+
+-- the bytes up to the end, and those behind it
+pub text-is : {old new more : List ℕ} {at end : ℕ} → Appended old at more end new → at ≤ length old →
+    take end new ≡ take at old ++ take (length old - at) more
+text-is {old} {new} {more} {at} {end} a h =
+    ap (take end) (a .newIs)
+    ∙ take-at (take at old ++ take (length old - at) more) (drop (at + length more) old) end (head-long old at more h ∙ sym (a .endIs))
+
+-- behind the end of what was appended everything is as it was, also where some of it was cut off
+bytes-behind : (old : List ℕ) (at : ℕ) (more : List ℕ) (n : ℕ) →
+    drop (endAfter old at more + n) (bytesAfter old at more) ≡ drop (at + length more + n) old
+bytes-behind old at more n =
+    elim (decLe (at + length more) (length old)) [
+      | yes h ↦
+          let e : endAfter old at more ≡ at + length more = omega arith in
+          ap (λ (k : ℕ). drop (k + n) (bytesAfter old at more)) e
+          ∙ sym (drop-drop n (at + length more) (bytesAfter old at more))
+          ∙ ap (drop n)
+          (drop-at (take at old ++ take (length old - at) more) (drop (at + length more) old) (at + length more)
+          (head-long old at more (omega arith) ∙ e))
+          ∙ drop-drop n (at + length more) old
+      | no h ↦
+          drop-past (endAfter old at more + n) (bytesAfter old at more) (omega (arith, bytes-long old at more))
+          ∙ sym (drop-past (at + length more + n) old (omega arith))
+    ]
+
+-- what is appended to nothing leaves the bytes behind its end as they were
+pub behind : {old new more : List ℕ} {end : ℕ} → Appended old 0 more end new → length more ≤ length old → drop end new ≡ drop end old
+behind {old} {new} {more} {end} a h =
+    let e : end ≡ endAfter old 0 more + 0 = omega (arith, a .endIs) in
+    let f : 0 + length more + 0 ≡ end = omega (arith, a .endIs) in
+    ap (λ (k : ℕ). drop k new) e
+    ∙ ap (drop (endAfter old 0 more + 0)) (a .newIs)
+    ∙ bytes-behind old 0 more 0
+    ∙ ap (λ (k : ℕ). drop k old) f
+
+-- past the buffer nothing changes
+past : (old : List ℕ) (at : ℕ) (more : List ℕ) → length old ≤ at → bytesAfter old at more ≡ old
+past old at more h =
+    let none : length old - at ≡ 0 = omega arith in
+    let behind : drop (at + length more) old ≡ [] = drop-past (at + length more) old (omega arith) in
+    rw (none, take-all at old h, behind, append-nil old, append-nil old)
+
+-- taking from one list after the other
+take-both : (n : ℕ) (xs ys : List ℕ) → take n (xs ++ ys) ≡ take n xs ++ take (n - length xs) ys
+take-both zero xs ys = rw (zero-sub (length xs))
+take-both (suc n) [] ys = rw (sub-zero (suc n))
+take-both (suc n) (x ∷ xs) ys = rw (suc-sub-suc n (length xs)) (ap (λ (zs : List ℕ). x ∷ zs) (take-both n xs ys))
 
 -- one after the other
 pub then : {old middle new first second : List ℕ} {at between end : ℕ} → Appended old at first between middle →
     Appended middle between second end new → Appended old at (first ++ second) end new
 then {old} {middle} {new} {first} {second} {at} {between} {end} a b =
     record {
-      long = b .long ∙ a .long;
-      text =
-          b .text
-          ∙ ap (λ (n : ℕ). take n (take between middle ++ second)) (a .long)
-          ∙ ap (λ (xs : List ℕ). take (length old) (xs ++ second)) (a .text)
-          ∙ take-part (length old) (take at old ++ first) second
-          ∙ ap (take (length old)) (append-assoc (take at old) first second);
-      within = λ h. omega (arith, a .within h, b .within (omega (arith, a .long, a .within h)), a .long);
+      endIs = omega (arith, a .endIs, b .endIs, long a, length-append first second);
+      newIs = b .newIs ∙ joined;
     }
+  where
+    -- the text with (first ++ second) behind it
+    front : at ≤ length old → take between middle ++ take (length middle - between) second ≡ take at old ++ take (length old - at) (first ++ second)
+    front h =
+        let e : length middle - between ≡ length old - at - length first = omega (arith, a .endIs, long a) in
+        ap (λ (xs : List ℕ). xs ++ take (length middle - between) second) (text-is a h)
+        ∙ ap (λ (k : ℕ). take at old ++ take (length old - at) first ++ take k second) e
+        ∙ append-assoc (take at old) (take (length old - at) first) (take (length old - at - length first) second)
+        ∙ ap (λ (xs : List ℕ). take at old ++ xs) (sym (take-both (length old - at) first second))
+
+    behind : drop (between + length second) middle ≡ drop (at + length (first ++ second)) old
+    behind =
+        let e : at + length first + length second ≡ at + length (first ++ second) = omega (arith, length-append first second) in
+        ap (λ (k : ℕ). drop (k + length second) middle) (a .endIs)
+        ∙ ap (drop (endAfter old at first + length second)) (a .newIs)
+        ∙ bytes-behind old at first (length second)
+        ∙ ap (λ (k : ℕ). drop k old) e
+
+    joined : bytesAfter middle between second ≡ bytesAfter old at (first ++ second)
+    joined =
+        elim (decLe at (length old)) [
+          | yes h ↦
+              ap (λ (xs : List ℕ). xs ++ drop (between + length second) middle) (front h)
+              ∙ ap (λ (xs : List ℕ). take at old ++ take (length old - at) (first ++ second) ++ xs) behind
+          | no h ↦
+              past middle between second (omega (arith, a .endIs, long a))
+              ∙ a .newIs
+              ∙ past old at first (omega arith)
+              ∙ sym (past old at (first ++ second) (omega arith))
+        ]
 
 -- nothing appended
 pub nothing : (old : List ℕ) (at : ℕ) → Appended old at [] at old
 nothing old at =
     record {
-      long = refl;
-      text =
-          sym (ap (take (length old)) (append-nil (take at old)) ∙ take-all (length old) (take at old) (omega (arith, length-take at old)));
-      within = λ h. h;
+      endIs = omega arith;
+      newIs =
+          sym (rw (take-nil (length old - at), append-nil (take at old), add-zero at) (take-append-drop at old));
     }
 
 -- a copy of the first i bytes, whose room is known
@@ -79,39 +171,30 @@ take-min n xs =
           ap (λ (k : ℕ). take k xs) e
     ]
 
--- a text that fits in n bytes, and more behind it
-take-behind : (n at : ℕ) (old bytes : List ℕ) → at ≤ length old → at ≤ n → take n (take at old ++ bytes) ≡ take at old ++ take (n - at) bytes
-take-behind n at old bytes h k =
-    let e : n ≡ length (take at old) + (n - at) = omega (arith, length-take-le at old h) in
-    ap (λ (m : ℕ). take m (take at old ++ bytes)) e ∙ take-append-add (take at old) bytes (n - at)
-
-copied-text : {old : List ℕ} {at : ℕ} {bytes : List ℕ} {count i : ℕ} {new : List ℕ} → Copied old at bytes count i new → count ≤ i →
-    take (at + count) new ≡ take (length old) (take at old ++ bytes)
-copied-text {old} {at} {bytes} {count} {i} {new} c h =
-    elim (decLe at (length old)) [
-      | yes l ↦
-          let e : i ≡ count = omega (arith, c .most) in
-          ap (take (at + count)) (c .copy)
-          ∙ ap (λ (k : ℕ). take (at + count) (paste old at bytes k)) e
-          ∙ take-paste old at bytes count l (omega (arith, c .room))
-          ∙ ap (λ (k : ℕ). take at old ++ take k bytes) (c .room)
-          ∙ ap (λ (xs : List ℕ). take at old ++ xs) (take-min (length old - at) bytes)
-          ∙ sym (take-behind (length old) at old bytes l l)
-      | no l ↦
-          let e : i ≡ 0 = omega (arith, c .most, c .room) in
-          take-all (at + count) new (omega (arith, c .long))
-          ∙ c .copy
-          ∙ ap (paste old at bytes) e
-          ∙ sym (paste-zero old at bytes)
-          ∙ sym (take-append-seam old bytes)
-          ∙ sym (ap (λ (xs : List ℕ). take (length old) (xs ++ bytes)) (take-all at old (omega arith)))
+-- and no more is dropped
+drop-min : (n m : ℕ) (xs : List ℕ) → drop (n + min m (length xs - n)) xs ≡ drop (n + m) xs
+drop-min n m xs =
+    elim (decLe (n + m) (length xs)) [
+      | yes h ↦
+          let e : n + min m (length xs - n) ≡ n + m = omega arith in
+          ap (λ (k : ℕ). drop k xs) e
+      | no h ↦ drop-past (n + min m (length xs - n)) xs (omega arith) ∙ sym (drop-past (n + m) xs (omega arith))
     ]
 
 -- the whole copy
 pub copied-all : {old : List ℕ} {at : ℕ} {bytes : List ℕ} {count i : ℕ} {new : List ℕ} → Copied old at bytes count i new → count ≤ i →
     Appended old at bytes (at + count) new
-copied-all c h =
-    record { long = c .long; text = copied-text c h; within = λ l. omega (arith, c .room) }
+copied-all {old} {at} {bytes} {count} {i} {new} c h =
+    let e : i ≡ min (length bytes) (length old - at) = omega (arith, c .most, c .room) in
+    record {
+      endIs = omega (arith, c .room);
+      newIs =
+          c .copy
+          ∙ ap (paste old at bytes) e
+          ∙ ap (λ (xs : List ℕ). take at old ++ xs ++ drop (at + min (length bytes) (length old - at)) old)
+          (take-min (length old - at) bytes)
+          ∙ ap (λ (xs : List ℕ). take at old ++ take (length old - at) bytes ++ xs) (drop-min at (length bytes) old);
+    }
 
 -- the same bytes, otherwise written
 pub as-text : {old new more same : List ℕ} {at end : ℕ} → Appended old at more end new → more ≡ same → Appended old at same end new
@@ -119,7 +202,7 @@ as-text {old} {new} {more} {same} {at} {end} a e = subst (λ (xs : List ℕ). Ap
 
 -- a text that began within the buffer ends within it, so that it can be lent as a part
 pub ends-within : {old new more : List ℕ} {at end : ℕ} → Appended old at more end new → at ≤ length old → end ≤ length new
-ends-within a h = omega (arith, a .within h, a .long)
+ends-within a h = omega (arith, a .endIs, long a)
 
 pub part-length : (end : ℕ) (xs : List ℕ) → end ≤ length xs → end ≡ length (take end xs)
 part-length end xs h = sym (length-take-le end xs h)

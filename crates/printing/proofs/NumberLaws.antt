@@ -1,6 +1,6 @@
 -- The digits that `io::decimal` gives are those of `decimalOf`.
 -- Assumes nothing.
-use Prim.Native.Nat.{ℕ, _+_, _-_, _^_, _≤_, _<_}
+use Prim.Native.Nat.{ℕ, _-_, _^_, _≤_, _<_}
 use native.Mathlib.Omega.{arith}
 use native.Mathlib.Nat.{pow-le-pow-right, zero-lt-suc}
 use native.Mathlib.Decide.{decLe}
@@ -8,10 +8,8 @@ use mathlib.Core.Path.{_≡_, refl, sym, _∙_, ap}
 use mathlib.Core.Bool.{true, false}
 use mathlib.Core.Logic.{inl, inr}
 use mathlib.Core.List.{List}
-use lib.Dec.{ltb}
 use lib.ListN.{take}
 use Rattle.io.specs.Digits.{digits, Fewest}
-use Rattle.model.specs.Search.{firstFrom}
 use Rattle.model.proofs.Search.{Found, finds}
 use Rattle.model.proofs.Tests.{ltb?}
 use Rattle.printing.specs.Text.{isHeld, decimalOf}
@@ -19,7 +17,7 @@ use Rattle.printing.specs.Text.{isHeld, decimalOf}
 power-more : (i j : ℕ) → i ≤ j → 10 ^ i ≤ 10 ^ j
 power-more i j h = pow-le-pow-right (zero-lt-suc 9) h
 
-is-held : (number count : ℕ) → number < 10 ^ count → isHeld number count ≡ true
+pub is-held : (number count : ℕ) → number < 10 ^ count → isHeld number count ≡ true
 is-held number count h =
     elim (ltb? number (10 ^ count)) [
       | inl p ↦ p .0

@@ -1,2 +1,5 @@
 pub mod Appended
 pub mod Text
+pub mod Answered
+pub mod Longest
+pub mod Samples

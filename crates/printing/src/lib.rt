@@ -4,7 +4,11 @@ ghost use Prim.Native.Nat.{_<_};
 ghost use lib.ListN.{getD};
 ghost use Rattle.tables.specs.Layout.{taskCount};
 ghost use Rattle.printing.specs.Appended.{Appended};
+ghost use Rattle.printing.specs.Answered.{answerText};
 ghost use Rattle.printing.specs.Text.{textOf, verdictLine, lineWithNumber, refusedLine, tasksText, taskLine, responseText, deadlineShown};
+use model::Place;
+use model::Ticks;
+use response::Start;
 use response::Verdict;
 use tables::DEADLINE_AT;
 use tables::HEAD_SIZE;
@@ -18,8 +22,18 @@ pub use pieces::append;
 use pieces::append_number;
 pub use pieces::append_with_number;
 
-// Bytes enough for the text of any table: 32 task lines of at most 52 bytes, the first and the last line, and what `worked` adds.
-pub const ROOM: usize = 2048;
+// Bytes enough for the text of any table, and for the longest no more than enough: `longest` of specs/Longest.antt.
+pub const LONGEST: usize = 1675;
+
+// Analyses the table from either start, and puts the text of what the analysis says at the buffer's beginning; answers where it ends.
+pub fn answer_text(start: Start, table: &[u8], out: &mut [u8]) -> usize
+    ensures { λ r. ⌜ Appended (now (out .entry)) 0 (answerText start (now (table .entry))) r (now (out .exit)) ⌝ }
+{
+    let mut answers = [0u32; 32];
+    let mut rounds = [0u32; 32];
+    let verdict = response::analyse_from(start, table, &mut answers, &mut rounds);
+    text(out, 0, table, verdict, &answers, &rounds)
+}
 
 // Appends the text at `at`, and answers where the next byte goes.
 pub fn text(
@@ -89,58 +103,67 @@ fn tasks(out: &mut [u8], at: usize, table: &[u8], answers: &[u32], rounds: &[u32
     let n = task_count(table);
     let mut next = line_with_number(out, at, b"tasks ", n as u64);
     for i in 0..n {
+        let place = Place(i);
         next = task(
             out,
             next,
-            i,
-            word(answers, i),
-            deadline(table, i),
-            word(rounds, i),
+            place,
+            Ticks(word(answers, place)),
+            deadline(table, place),
+            word(rounds, place),
         );
     }
     next
 }
 
 // One task's line.
-fn task(out: &mut [u8], at: usize, place: usize, answer: u32, deadline: u32, rounds: u32) -> usize
-    ensures { λ r. ⌜ Appended (now (out .entry)) at (taskLine place answer deadline rounds) r (now (out .exit)) ⌝ }
+fn task(
+    out: &mut [u8],
+    at: usize,
+    place: Place,
+    answer: Ticks,
+    deadline: Ticks,
+    rounds: u32,
+) -> usize
+    ensures { λ r. ⌜ Appended (now (out .entry)) at (taskLine (place .0) (answer .0) (deadline .0) rounds) r (now (out .exit)) ⌝ }
 {
-    let placed = append_number(out, at, place as u64);
+    let placed = append_number(out, at, place.0 as u64);
     let answered = response(out, placed, answer);
-    let next = append_with_number(out, answered, b" deadline ", deadline as u64);
+    let next = append_with_number(out, answered, b" deadline ", deadline.0 as u64);
     line_with_number(out, next, b" rounds ", rounds as u64)
 }
 
 // An answer of 0 is late.
-fn response(out: &mut [u8], at: usize, answer: u32) -> usize
-    ensures { λ r. ⌜ Appended (now (out .entry)) at (responseText answer) r (now (out .exit)) ⌝ }
+fn response(out: &mut [u8], at: usize, answer: Ticks) -> usize
+    ensures { λ r. ⌜ Appended (now (out .entry)) at (responseText (answer .0)) r (now (out .exit)) ⌝ }
 {
-    if answer == 0 {
+    if answer.0 == 0 {
         append(out, at, b" late")
     } else {
-        append_with_number(out, at, b" response ", answer as u64)
+        append_with_number(out, at, b" response ", answer.0 as u64)
     }
 }
 
 // The deadline of the record at a place; 0 where the table ends before it does, as no accepted table does.
-fn deadline(table: &[u8], place: usize) -> u32
-    requires { ⌜ place < 256 ⌝ }
-    ensures { λ r. ⌜ r ≡ deadlineShown (now (table .entry)) place ⌝ }
+fn deadline(table: &[u8], place: Place) -> Ticks
+    requires { ⌜ place .0 < 256 ⌝ }
+    ensures { λ r. ⌜ r .0 ≡ deadlineShown (now (table .entry)) (place .0) ⌝ }
 {
     if table.len() < HEAD_SIZE {
-        return 0;
+        return Ticks(0);
     }
     let layout = tables::layout::of(table[VERSION_AT]);
-    let at = HEAD_SIZE + layout.size * place + DEADLINE_AT;
+    let at = HEAD_SIZE + layout.size * place.0 + DEADLINE_AT;
     if table.len() < at + 4 {
-        return 0;
+        return Ticks(0);
     }
-    tables::fields::word(table, at)
+    Ticks(tables::fields::word(table, at))
 }
 
 // The word at a place; 0 past the end, which no accepted table reaches.
-pub fn word(words: &[u32], place: usize) -> u32
-    ensures { λ r. ⌜ r ≡ getD (now (words .entry)) place 0 ⌝ }
+pub fn word(words: &[u32], place: Place) -> u32
+    ensures { λ r. ⌜ r ≡ getD (now (words .entry)) (place .0) 0 ⌝ }
 {
-    if place < words.len() { words[place] } else { 0 }
+    let i = place.0;
+    if i < words.len() { words[i] } else { 0 }
 }

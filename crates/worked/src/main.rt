@@ -16,6 +16,7 @@ mod starts;
 
 use comparing::same_outcome;
 use libc::STDOUT_FILENO;
+use model::Place;
 use printing::append;
 use response::Start;
 use response::Verdict;
@@ -23,6 +24,10 @@ use tables::fields::count;
 
 // What each lent word holds before a call, so that a word that stays can be seen to stay.
 const FILLER: u32 = 2779096485;
+
+// Bytes enough for all lines of an entry: its table's text, and at most 27 with its number, 8 on the words that stay, 34 of the engine
+// and 273 with the rounds from the old start.
+const ROOM: usize = printing::LONGEST + 342;
 
 fn main() {
     let file = os::open_read(b"tables");
@@ -120,7 +125,7 @@ fn judge(
     let verdict = response::analyse(table, answers, rounds);
     let old = response::analyse_from(Start::OwnCost, table, old_answers, old_rounds);
     let heard = engine::play(table, played);
-    let mut out = [0u8; printing::ROOM];
+    let mut out = [0u8; ROOM];
     let named = printing::line_with_number(&mut out, 0, b"table ", number);
     let told = printing::text(&mut out, named, table, verdict, answers, rounds);
     let first = first_to_stay(table, verdict);
@@ -135,26 +140,26 @@ fn judge(
         &mut out,
         heard_end,
         old_rounds,
-        first,
+        first.0,
         same_outcome(verdict, old, answers, old_answers) && stay(old_rounds, first),
     );
     io::write_all(STDOUT_FILENO, &out[..end]);
 }
 
 // The first word that is not to be written: a refusal changes no word.
-fn first_to_stay(table: &[u8], verdict: Verdict) -> usize {
+fn first_to_stay(table: &[u8], verdict: Verdict) -> Place {
     match verdict {
-        Verdict::Refused(_) => 0,
-        Verdict::Schedulable => printing::task_count(table),
-        Verdict::Late(_) => printing::task_count(table),
+        Verdict::Refused(_) => Place(0),
+        Verdict::Schedulable => Place(printing::task_count(table)),
+        Verdict::Late(_) => Place(printing::task_count(table)),
     }
 }
 
 // Do the words from `first` on still hold the filler?
-pub fn stay(words: &[u32], first: usize) -> bool
-    ensures { λ r. ⌜ r ≡ stays (now (words .entry)) first ⌝ }
+pub fn stay(words: &[u32], first: Place) -> bool
+    ensures { λ r. ⌜ r ≡ stays (now (words .entry)) (first .0) ⌝ }
 {
-    let mut i = first;
+    let mut i = first.0;
     while i < words.len() {
         if words[i] != FILLER {
             return false;

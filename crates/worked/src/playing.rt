@@ -3,6 +3,7 @@ ghost use mathlib.Core.Path.{_≡_};
 ghost use Rattle.printing.specs.Appended.{Appended};
 ghost use Rattle.worked.specs.Played.{isRefused, agrees, playedText};
 use crate::comparing::same_outcome;
+use model::Place;
 use printing::append;
 use response::Verdict;
 
@@ -22,7 +23,7 @@ pub fn agree(verdict: Verdict, heard: Verdict, answers: &[u32], played: &[u32]) 
     ensures { λ r. ⌜ r ≡ agrees verdict heard (now (answers .entry)) (now (played .entry)) ⌝ }
 {
     if is_refused(heard) {
-        return crate::stay(played, 0);
+        return crate::stay(played, Place(0));
     }
     if is_refused(verdict) {
         return true;

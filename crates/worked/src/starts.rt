@@ -1,6 +1,7 @@
 // The old start's side of an entry (document 02, L5): the rounds from it, and whether all else is as from the default.
 ghost use Rattle.printing.specs.Appended.{Appended};
 ghost use Rattle.worked.specs.Starts.{numbersText, ownCostText};
+use model::Place;
 use printing::append;
 use printing::append_with_number;
 use printing::word;
@@ -11,7 +12,7 @@ fn append_numbers(out: &mut [u8], at: usize, words: &[u32], count: usize) -> usi
 {
     let mut next = at;
     for i in 0..count {
-        next = append_with_number(out, next, b" ", word(words, i) as u64);
+        next = append_with_number(out, next, b" ", word(words, Place(i)) as u64);
     }
     next
 }

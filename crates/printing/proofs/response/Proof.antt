@@ -15,6 +15,9 @@ append-requires c κs = search needs
 slice-aggregate-append-with-number : tie.Need-slice-aggregate-append-with-number
 slice-aggregate-append-with-number c = search needs
 
+cast-append-with-number : tie.Need-cast-append-with-number
+cast-append-with-number c = search needs
+
 append-with-number-requires : tie.Need-append-with-number-requires
 append-with-number-requires c κs = search needs
 
@@ -28,7 +31,7 @@ same-length-2 : tie.Need-same-length-2
 same-length-2 c = search needs
 
 returns-2 : tie.Need-returns-2
-returns-2 c = as-text (c .before .before .append-with-number .ensures) (response-told _ (c .before .before .before .before .before .if1 .left))
+returns-2 c = as-text (c .before .before .append-with-number .ensures) (response-told _ (c .before .before .before .before .before .before .if1 .left))
 
 pub response-spec : {M : Type 1} → statement M
 response-spec =
@@ -37,6 +40,7 @@ response-spec =
     slice-aggregate-append
     append-requires
     slice-aggregate-append-with-number
+    cast-append-with-number
     append-with-number-requires
     same-length
     returns

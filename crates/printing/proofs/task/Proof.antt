@@ -14,6 +14,9 @@ response-requires c κs = search needs
 slice-aggregate-append-with-number : tie.Need-slice-aggregate-append-with-number
 slice-aggregate-append-with-number c = search needs
 
+cast-append-with-number : tie.Need-cast-append-with-number
+cast-append-with-number c = search needs
+
 append-with-number-requires : tie.Need-append-with-number-requires
 append-with-number-requires c κs = search needs
 
@@ -27,7 +30,7 @@ same-length : tie.Need-same-length
 same-length c = search needs
 
 returns : tie.Need-returns
-returns c = then (then (then (c .before .before .before .before .before .before .before .before .before .before .before .before .before .before .before .before .append-number .ensures) (c .before .before .before .before .before .before .before .before .before .before .before .before .response .ensures)) (c .before .before .before .before .before .before .before .append-with-number .ensures)) (c .before .before .line-with-number .ensures)
+returns c = then (then (then (c .before .before .before .before .before .before .before .before .before .before .before .before .before .before .before .before .before .append-number .ensures) (c .before .before .before .before .before .before .before .before .before .before .before .before .before .response .ensures)) (c .before .before .before .before .before .before .before .append-with-number .ensures)) (c .before .before .line-with-number .ensures)
 
 pub task-spec : {M : Type 1} → statement M
 task-spec =
@@ -36,6 +39,7 @@ task-spec =
     append-number-requires
     response-requires
     slice-aggregate-append-with-number
+    cast-append-with-number
     append-with-number-requires
     slice-aggregate-line-with-number
     line-with-number-requires

@@ -2,6 +2,7 @@
 -- Assumes nothing.
 use Rattle.printing.proofs.TextLaws.{Lines, lines-none, lines-more, lines-all}
 use mathlib.Core.Path.{_∙_}
+use Rattle.printing.proofs.AppendLaws.{long}
 use Prim.Native.Nat.{_-_}
 use native.Mathlib.Omega.{arith}
 use borrow.Author.Needs.{needs}
@@ -48,7 +49,7 @@ loop-again : tie.Need-loop-again Inv-loop μ-loop
 loop-again c = lines-more (c .before .before .before .before .before .before .before .before .loop .inv) (c .before .before .before .before .before .before .before .loop-test .taken) (c .before .before .before .before .before .word .ensures) (c .before .before .before .before .deadline .ensures) (c .before .before .before .word2 .ensures) (c .before .before .task .ensures)
 
 same-length : tie.Need-same-length Inv-loop μ-loop
-same-length c = c .before .loop .inv .lines .long ∙ c .before .before .before .before .line-with-number .ensures .long
+same-length c = long (c .before .loop .inv .lines) ∙ long (c .before .before .before .before .line-with-number .ensures)
 
 returns : tie.Need-returns Inv-loop μ-loop
 returns c = lines-all (c .before .before .before .before .line-with-number .ensures) (c .before .loop .inv) (c .loop-test .left)

@@ -10,10 +10,10 @@ use Rattle.worked.proofs.stay.Statement.{statement}
 use Rattle.worked.proofs.stay.Tie as tie
 
 abbrev Inv-loop : tie.InvT-loop
-Inv-loop words first i₀ i = stays words i ≡ stays words first
+Inv-loop words i₀ i = stays words i ≡ stays words i₀
 
 abbrev μ-loop : tie.MeasureT-loop
-μ-loop words first i₀ i = length words - i
+μ-loop words i₀ i = length words - i
 
 loop-holds : tie.Need-loop-holds Inv-loop μ-loop
 loop-holds c = refl

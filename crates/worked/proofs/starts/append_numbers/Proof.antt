@@ -4,7 +4,7 @@ use Prim.Native.Nat.{_-_, _≤_}
 use native.Mathlib.Omega.{arith}
 use mathlib.Core.Path.{_≡_, ap}
 use Rattle.printing.specs.Appended.{Appended}
-use Rattle.printing.proofs.AppendLaws.{then, nothing, as-text}
+use Rattle.printing.proofs.AppendLaws.{then, nothing, as-text, long}
 use Rattle.worked.specs.Starts.{numbersText}
 use Rattle.worked.proofs.WordLaws.{numbers-none, numbers-more}
 use borrow.Author.Needs.{needs}
@@ -43,7 +43,7 @@ loop-again : tie.Need-loop-again Inv-loop μ-loop
 loop-again c = (omega (arith, c .before .before .before .before .before .before .loop-test .taken), as-text (then (c .before .before .before .before .before .before .before .loop .inv .1) (c .before .before .append-with-number .ensures)) (numbers-more _ _ _ (c .before .before .before .word .ensures)))
 
 same-length : tie.Need-same-length Inv-loop μ-loop
-same-length c = c .before .loop .inv .1 .long
+same-length c = long (c .before .loop .inv .1)
 
 returns : tie.Need-returns Inv-loop μ-loop
 returns c =

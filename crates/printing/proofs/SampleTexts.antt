@@ -1,0 +1,21 @@
+-- The sample texts, computed.
+-- Assumes nothing.
+use mathlib.Core.Path.{refl}
+use Rattle.model.specs.Lists.{tabulate, keep, sumOf, largestOf}
+use Rattle.model.specs.Search.{firstFrom, firstOf}
+use Rattle.tables.specs.Layout.{layoutFor}
+use Rattle.tables.specs.Refusals.{unless, orElse, firstIn, fieldsCheck}
+use Rattle.tables.specs.Rules.{countTest, lengthsAgree, priorityFits, recordTest, rowAfter, rowTest}
+use Rattle.tables.specs.Checks.{countsCheck, recordCheck, rowCheck, headCheck, recordsCheck, rowsCheck, bodyCheck, roomCheck, tableCheckSpanning}
+use Rattle.equation.specs.Demand.{demand}
+use Rattle.equation.specs.Sequence.{term}
+use Rattle.blocking.specs.Ceilings.{ceiling, blockingOf}
+use Rattle.response.specs.Analysis.{answerOf, roundsOf}
+use Rattle.response.specs.Outcome.{verdictOf, answersAfter, roundsAfter}
+use Rattle.printing.specs.Text.{decimalOf, taskLines}
+use Rattle.printing.specs.Answered.{answerText}
+use Rattle.printing.specs.Samples.{samples, SamplesRight}
+
+pub samplesRight : SamplesRight
+unfolding tabulate keep sumOf largestOf firstFrom firstOf layoutFor unless orElse firstIn fieldsCheck countTest lengthsAgree priorityFits recordTest rowAfter rowTest countsCheck recordCheck rowCheck headCheck recordsCheck rowsCheck bodyCheck roomCheck tableCheckSpanning demand term ceiling blockingOf answerOf roundsOf verdictOf answersAfter roundsAfter decimalOf taskLines answerText samples
+samplesRight = refl

@@ -1,0 +1,17 @@
+-- The text of what the analysis says of a table's bytes: what the program prints for them (SPECIFICATION 10).
+-- Assumes nothing.
+use Prim.Native.Nat.{ℕ}
+use mathlib.Core.List.{List}
+use lib.ListN.{replicate}
+use Rattle.equation.specs.declared.Start.{Start}
+use Rattle.response.specs.Outcome.{verdictOf, answersAfter, roundsAfter}
+use Rattle.printing.specs.Text.{textOf}
+
+-- what each of both slices holds before the call: a word for every task of the longest table
+abbrev pub zeros : List ℕ
+zeros = replicate 32 0
+
+-- what `analyse_from` answers and leaves, as text
+unfoldable pub answerText : Start → List ℕ → List ℕ
+answerText start bytes =
+    textOf bytes (verdictOf bytes 32 32) (answersAfter bytes zeros zeros) (roundsAfter start bytes zeros zeros)
