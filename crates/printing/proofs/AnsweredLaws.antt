@@ -5,14 +5,14 @@ use mathlib.Core.Path.{_≡_, _∙_, ap}
 use mathlib.Core.List.{List}
 use Rattle.equation.specs.declared.Start.{Start}
 use Rattle.answering.specs.declared.Verdict.{Verdict}
-use Rattle.response.specs.Outcome.{Outcome, verdictOf, answersAfter}
+use Rattle.response.specs.Outcome.{Left, lending, Outcome, verdictOf, answersAfter}
 use Rattle.printing.specs.Text.{textOf}
 use Rattle.printing.specs.Answered.{zeros, answerText}
 
-pub text-of-outcome : (start : Start) (bytes : List ℕ) (verdict : Verdict) (answers rounds : List ℕ) →
-    Outcome start bytes zeros zeros verdict answers rounds → textOf bytes verdict answers rounds ≡ answerText start bytes
+pub text-of-outcome : (start : Start) (bytes : List ℕ) (result : Left) → Outcome start (lending bytes zeros zeros) result →
+    textOf bytes (result .verdict) (result .answers) (result .rounds) ≡ answerText start bytes
 unfolding answerText
-text-of-outcome start bytes verdict answers rounds o =
-    ap (λ (v : Verdict). textOf bytes v answers rounds) (o .verdictIs)
-    ∙ ap (λ (a : List ℕ). textOf bytes (verdictOf bytes 32 32) a rounds) (o .answersAre)
+text-of-outcome start bytes result o =
+    ap (λ (v : Verdict). textOf bytes v (result .answers) (result .rounds)) (o .verdictIs)
+    ∙ ap (λ (a : List ℕ). textOf bytes (verdictOf bytes 32 32) a (result .rounds)) (o .answersAre)
     ∙ ap (textOf bytes (verdictOf bytes 32 32) (answersAfter bytes zeros zeros)) (o .roundsAre)

@@ -4,12 +4,12 @@ use Prim.Native.Nat.{ℕ, _+_, _≤_, _<_}
 use native.Mathlib.Omega.{arith}
 use native.Mathlib.Decide.{decLe}
 use native.Mathlib.Nat.{sub-zero}
-use mathlib.Core.Path.{_≡_, refl, _∙_, ap}
+use mathlib.Core.Path.{_≡_, refl, sym, _∙_, ap}
 use mathlib.Core.Logic.{inl, inr}
 use mathlib.Core.List.{List}
 use lib.ListN.{length, getD, take, length-append, length-take}
 use lib.Seq.{take-all}
-use Rattle.model.specs.Lists.{total, wordOf, sumOf}
+use Rattle.model.specs.Lists.{tabulate, total, wordOf, sumOf}
 use Rattle.model.specs.Search.{firstFrom}
 use Rattle.model.specs.Tables.{Task, taskOf, loadsOf}
 use Rattle.model.proofs.Tests.{ltb?}
@@ -18,8 +18,9 @@ use Rattle.tables.specs.declared.Refusal.the-variants.{TooShort, UnknownVersion
 use Rattle.tables.specs.Fields.{taskCountField, costField, deadlineField}
 use Rattle.tables.specs.Layout.{layoutFor, layoutOf, taskCount, recordStart, deadlineAt, deadlineIn, tasksOf, tableOf}
 use Rattle.tables.specs.Refusals.{numberOf, placeOf}
-use Rattle.tables.specs.Meaning.{TableRight, RoomFor}
+use Rattle.tables.specs.Meaning.{TableRight}
 use Rattle.tables.proofs.LayoutLaws.{layout-sound}
+use Rattle.encoding.specs.Bytes.{joined}
 use Rattle.equation.specs.declared.Start.{Start}
 use Rattle.equation.specs.Laws.{costOf}
 use Rattle.equation.specs.Starts.{firstTerm}
@@ -28,15 +29,15 @@ use Rattle.answering.specs.declared.Verdict.{Verdict}
 use Rattle.answering.specs.declared.Verdict.the-variants as verdict
 use Rattle.response.specs.Verdicts.{verdictPlace}
 use Rattle.response.specs.Analysis.{baseOf, startOf}
-use Rattle.response.specs.Outcome.{Outcome, verdictOf, answersAfter, roundsAfter}
-use Rattle.response.specs.Statements.{Written}
+use Rattle.response.specs.Outcome.{Call, Left, lending, leaving, Outcome, verdictOf, answersAfter, roundsAfter}
+use Rattle.response.specs.Statements.{Accepted, Written}
 use Rattle.response.proofs.Demands.{demand1, demand2}
 use Rattle.response.proofs.PlaceLaws.{verdict-place}
 use Rattle.response.proofs.TableLaws.{task-is}
 use Rattle.printing.specs.Appended.{Appended}
-use Rattle.printing.specs.Text.{bytesOf, decimalOf, withNumber, lineWithNumber, refusedLine, deadlineShown, taskLines, tasksText}
+use Rattle.printing.specs.Text.{bytesOf, textOf, decimalOf, withNumber, lineWithNumber, refusedLine, deadlineShown, taskLines, tasksText}
 use Rattle.printing.specs.Answered.{zeros, answerText}
-use Rattle.printing.specs.Longest.{longest, TextFits, millionRecords, LongestReached, Whole, TextWhole}
+use Rattle.printing.specs.Longest.{longest, TextFits, LongestReached, Whole, TextWhole}
 use Rattle.printing.proofs.AppendLaws.{text-is, behind, part-length}
 use Rattle.printing.proofs.LengthLaws.{digitCount, few-digits, number-long, line-long, Small, lines-long, total-longer}
 
@@ -94,11 +95,15 @@ start-low EveryCost base urgent = omega arith
 start-low OwnCost base urgent = omega arith
 
 -- what is left for a task of an accepted table is at most its deadline, and so are its rounds, or they are 1
-module _ (start : Start) (bytes answers rounds : List ℕ) (v : Verdict) (answersLeft roundsLeft : List ℕ)
-    (o : Outcome start bytes answers rounds v answersLeft roundsLeft) (right : TableRight bytes)
-    (room : RoomFor bytes (length answers) (length rounds)) where
-  written : Written start bytes answers rounds v answersLeft roundsLeft
-  written = demand2 start bytes answers rounds v answersLeft roundsLeft o right room
+module _ (start : Start) (lent : Call) (result : Left) (o : Outcome start lent result) (accepted : Accepted lent) where
+  abbrev bytes : List ℕ
+  bytes = lent .bytes
+
+  abbrev right : TableRight (lent .bytes)
+  right = accepted .right
+
+  written : Written start lent result
+  written = demand2 start lent result o accepted
 
   few-tasks : taskCount bytes ≤ 32
   few-tasks =
@@ -109,14 +114,14 @@ module _ (start : Start) (bytes answers rounds : List ℕ) (v : Verdict) (answer
     deadline-small =
         omega (arith, ap (λ (t : Task). t .deadline) (task-is bytes i h), right .records i h deadlineField .high)
 
-    answer-small : wordOf answersLeft i ≤ 1000000
+    answer-small : wordOf (result .answers) i ≤ 1000000
     answer-small =
-        elim (decLe 1 (wordOf answersLeft i)) [
+        elim (decLe 1 (wordOf (result .answers) i)) [
           | yes p ↦ omega (arith, deadline-small, written .answersRight i h .answered p .3)
           | no p ↦ omega arith
         ]
 
-    rounds-small : wordOf roundsLeft i ≤ 1000000
+    rounds-small : wordOf (result .rounds) i ≤ 1000000
     rounds-small =
         let first = startOf start (tableOf bytes) i in
         let latest = taskOf (tasksOf bytes) i .latest in
@@ -133,7 +138,7 @@ module _ (start : Start) (bytes answers rounds : List ℕ) (v : Verdict) (answer
           | no p ↦ omega (arith, written .roundsRight i h .otherwise (omega arith))
         ]
 
-    small : Small (getD answersLeft i 0) (deadlineShown bytes i) (getD roundsLeft i 0)
+    small : Small (getD (result .answers) i 0) (deadlineShown bytes i) (getD (result .rounds) i 0)
     small =
         record {
           answerSmall = answer-small;
@@ -142,38 +147,44 @@ module _ (start : Start) (bytes answers rounds : List ℕ) (v : Verdict) (answer
           roundsSmall = rounds-small;
         }
 
-  all-long : length (tasksText bytes answersLeft roundsLeft) ≤ 1663
-  all-long = tasks-long bytes answersLeft roundsLeft few-tasks small
+  all-long : length (tasksText bytes (result .answers) (result .rounds)) ≤ 1663
+  all-long = tasks-long bytes (result .answers) (result .rounds) few-tasks small
 
 pub textFits : TextFits
-textFits start bytes answers rounds (verdict.Refused refusal) answersLeft roundsLeft o =
-    omega (arith, refused-long refusal (rw (ap verdictPlace (o .verdictIs)) (verdict-place bytes (length answers) (length rounds))))
-textFits start bytes answers rounds verdict.Schedulable answersLeft roundsLeft o =
-    let taken = demand1 .notRefused start bytes answers rounds answersLeft roundsLeft verdict.Schedulable o (λ r e. let z : _≡_ {A = ℕ} 0 1 = cc in omega arith) in
-    omega (
-      arith,
-      length-append (tasksText bytes answersLeft roundsLeft) (bytesOf "schedulable\n"),
-      all-long start bytes answers rounds verdict.Schedulable answersLeft roundsLeft o (taken .0) (taken .1),
-    )
-textFits start bytes answers rounds (verdict.Late first) answersLeft roundsLeft o =
-    let taken = demand1 .notRefused start bytes answers rounds answersLeft roundsLeft (verdict.Late first) o (λ r e. let z : _≡_ {A = ℕ} 0 1 = cc in omega arith) in
-    let place : first .0 < 65536 = rw (ap verdictPlace (o .verdictIs)) (verdict-place bytes (length answers) (length rounds)) in
-    omega (
-      arith,
-      length-append (tasksText bytes answersLeft roundsLeft) (lineWithNumber (bytesOf "late ") (first .0)),
-      all-long start bytes answers rounds (verdict.Late first) answersLeft roundsLeft o (taken .0) (taken .1),
-      line-long (bytesOf "late ") (first .0),
-      few-digits (first .0) 5 (omega arith) (omega arith),
-    )
+textFits start lent result o = go (result .verdict) refl
+  where
+    never : {v : Verdict} → result .verdict ≡ v → ((r : Refusal) → ¬ (v ≡ verdict.Refused r)) → Accepted lent
+    never is other = demand1 .notRefused start lent result o (λ r e. other r (sym is ∙ e))
+
+    place : {v : Verdict} → result .verdict ≡ v → verdictPlace v < 65536
+    place is = rw (ap verdictPlace (sym is ∙ o .verdictIs)) (verdict-place (lent .bytes) (length (lent .answers)) (length (lent .rounds)))
+
+    go : (v : Verdict) → result .verdict ≡ v → length (textOf (lent .bytes) v (result .answers) (result .rounds)) ≤ longest
+    go (verdict.Refused refusal) is = omega (arith, refused-long refusal (place is))
+    go verdict.Schedulable is =
+        omega (
+          arith,
+          length-append (tasksText (lent .bytes) (result .answers) (result .rounds)) (bytesOf "schedulable\n"),
+          all-long start lent result o (never is (λ r e. let z : _≡_ {A = ℕ} 0 1 = cc in omega arith)),
+        )
+    go (verdict.Late first) is =
+        omega (
+          arith,
+          length-append (tasksText (lent .bytes) (result .answers) (result .rounds)) (lineWithNumber (bytesOf "late ") (first .0)),
+          all-long start lent result o (never is (λ r e. let z : _≡_ {A = ℕ} 0 1 = cc in omega arith)),
+          line-long (bytesOf "late ") (first .0),
+          few-digits (first .0) 5 (omega arith) (omega (arith, place is)),
+        )
 
 pub longestReached : LongestReached
-unfolding decimalOf firstFrom taskLines layoutFor millionRecords
+unfolding decimalOf firstFrom taskLines layoutFor tabulate joined
 longestReached = refl
 
 answer-text-long : (start : Start) (bytes : List ℕ) → length (answerText start bytes) ≤ longest
 unfolding answerText
 answer-text-long start bytes =
-    textFits start bytes zeros zeros (verdictOf bytes 32 32) (answersAfter bytes zeros zeros) (roundsAfter start bytes zeros zeros)
+    textFits start (lending bytes zeros zeros)
+    (leaving (verdictOf bytes 32 32) (answersAfter bytes zeros zeros) (roundsAfter start bytes zeros zeros))
     (record { verdictIs = refl; answersAre = refl; roundsAre = refl })
 
 -- a text that has room at the beginning is whole

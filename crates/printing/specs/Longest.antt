@@ -1,14 +1,16 @@
 -- How long the text of a table can be, and that a buffer of that many bytes holds it whole (SPECIFICATION 10). The proofs are in
 -- proofs/LongestLaws.antt.
 -- Assumes nothing.
-use Prim.Native.Nat.{ℕ, zero, suc, _≤_}
+use Prim.Native.Nat.{ℕ, _-_, _≤_}
 use mathlib.Core.Path.{_≡_}
-use mathlib.Core.List.{List, [], _∷_, _++_}
+use mathlib.Core.List.{List, []}
 use lib.ListN.{length, take, drop, replicate}
+use Rattle.model.specs.Lists.{tabulate}
+use Rattle.model.specs.Tables.{Task}
+use Rattle.encoding.specs.Bytes.{encode}
 use Rattle.equation.specs.declared.Start.{Start}
-use Rattle.answering.specs.declared.Verdict.{Verdict}
 use Rattle.answering.specs.declared.Verdict.the-variants.{Schedulable}
-use Rattle.response.specs.Outcome.{Outcome}
+use Rattle.response.specs.Outcome.{Call, Left, Outcome}
 use Rattle.printing.specs.Appended.{Appended}
 use Rattle.printing.specs.Text.{textOf}
 use Rattle.printing.specs.Answered.{answerText}
@@ -21,26 +23,16 @@ longest = 1675
 -- Whatever the analysis says, from either start, of any bytes and in any slices, its text is no longer.
 abbrev pub TextFits : Type 0
 TextFits =
-    (start : Start) (bytes answers rounds : List ℕ) (verdict : Verdict) (answersLeft roundsLeft : List ℕ) →
-    Outcome start bytes answers rounds verdict answersLeft roundsLeft → length (textOf bytes verdict answersLeft roundsLeft) ≤ longest
+    (start : Start) (lent : Call) (result : Left) → Outcome start lent result →
+    length (textOf (lent .bytes) (result .verdict) (result .answers) (result .rounds)) ≤ longest
 
 -- The digits alone allow no smaller number: here are 32 tasks (1000000, 1, 1000000), and the text says that each answers 1,000,000 after
 -- 1,000,000 rounds. This is about the text, and not about which answers the analysis can give together.
-abbrev pub millionRecord : ℕ → List ℕ
-millionRecord priority =
-    priority
-    ∷ 0 ∷ 15 ∷ 66 ∷ 64
-    ∷ 0 ∷ 0 ∷ 0 ∷ 1
-    ∷ 0 ∷ 15 ∷ 66 ∷ 64
-    ∷ 0 ∷ 0 ∷ 0 ∷ 0
-    ∷ []
-
-unfoldable pub millionRecords : ℕ → List ℕ
-millionRecords zero = []
-millionRecords (suc n) = millionRecord (suc n) ++ millionRecords n
+abbrev pub millionTask : ℕ → Task
+millionTask i = record { priority = 32 - i; period = 1000000; cost = 1; deadline = 1000000; earliest = 0; latest = 0 }
 
 abbrev pub millionTable : List ℕ
-millionTable = (1 ∷ 2 ∷ 37 ∷ 32 ∷ 0 ∷ []) ++ millionRecords 32
+millionTable = encode 1 (record { tasks = tabulate millionTask 32; rows = [] })
 
 abbrev pub LongestReached : Type 0
 LongestReached = length (textOf millionTable Schedulable (replicate 32 1000000) (replicate 32 1000000)) ≡ longest

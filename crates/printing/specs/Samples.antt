@@ -1,40 +1,16 @@
--- The sample texts, whole and to the letter, from the bytes of their tables: as rows of one list under one statement, which the checker
--- computes (SPECIFICATION 10 and 12; document 01, "Worked tables"). The proof is in proofs/SampleTexts.antt.
+-- The sample texts, whole and to the letter, from the bytes of their tables, which are those of examples/
+-- (crates/encoding/specs/Examples.antt): as rows of one list under one statement, which the checker computes (SPECIFICATION 10 and 12;
+-- document 01, "Worked tables"). The proof is in proofs/SampleTexts.antt.
 -- Assumes nothing.
 use Prim.Native.Nat.{ℕ}
 use Prim.Native.String.{String}
 use mathlib.Core.Path.{_≡_}
 use mathlib.Core.List.{List, [], _∷_, _++_, map}
+use Rattle.encoding.specs.Examples.{fifth, late, sections, delays, refused}
 use Rattle.equation.specs.declared.Start.{Start}
 use Rattle.equation.specs.declared.Start.the-variants.{EveryCost, OwnCost}
 use Rattle.printing.specs.Text.{bytesOf}
 use Rattle.printing.specs.Answered.{answerText}
-
--- the fifth table: (4,1,4) (6,2,6) (10,3,10); these are the bytes of examples/fifth.table
-abbrev pub fifth : List ℕ
-fifth =
-    1 ∷ 0 ∷ 56 ∷ 3 ∷ 0
-    ∷ 3 ∷ 0 ∷ 0 ∷ 0 ∷ 4 ∷ 0 ∷ 0 ∷ 0 ∷ 1 ∷ 0 ∷ 0 ∷ 0 ∷ 4 ∷ 0 ∷ 0 ∷ 0 ∷ 0
-    ∷ 2 ∷ 0 ∷ 0 ∷ 0 ∷ 6 ∷ 0 ∷ 0 ∷ 0 ∷ 2 ∷ 0 ∷ 0 ∷ 0 ∷ 6 ∷ 0 ∷ 0 ∷ 0 ∷ 0
-    ∷ 1 ∷ 0 ∷ 0 ∷ 0 ∷ 10 ∷ 0 ∷ 0 ∷ 0 ∷ 3 ∷ 0 ∷ 0 ∷ 0 ∷ 10 ∷ 0 ∷ 0 ∷ 0 ∷ 0
-    ∷ []
-
--- the table with jitter: (30,10,20) J 10, (1000,15,25); examples/late.table
-abbrev pub late : List ℕ
-late =
-    1 ∷ 0 ∷ 39 ∷ 2 ∷ 0
-    ∷ 2 ∷ 0 ∷ 0 ∷ 0 ∷ 30 ∷ 0 ∷ 0 ∷ 0 ∷ 10 ∷ 0 ∷ 0 ∷ 0 ∷ 20 ∷ 0 ∷ 0 ∷ 0 ∷ 10
-    ∷ 1 ∷ 0 ∷ 0 ∷ 3 ∷ 232 ∷ 0 ∷ 0 ∷ 0 ∷ 15 ∷ 0 ∷ 0 ∷ 0 ∷ 25 ∷ 0 ∷ 0 ∷ 0 ∷ 0
-    ∷ []
-
--- the fifth table with a deadline of 7 in its second record, past the period; examples/refused.table
-abbrev pub refused : List ℕ
-refused =
-    1 ∷ 0 ∷ 56 ∷ 3 ∷ 0
-    ∷ 3 ∷ 0 ∷ 0 ∷ 0 ∷ 4 ∷ 0 ∷ 0 ∷ 0 ∷ 1 ∷ 0 ∷ 0 ∷ 0 ∷ 4 ∷ 0 ∷ 0 ∷ 0 ∷ 0
-    ∷ 2 ∷ 0 ∷ 0 ∷ 0 ∷ 6 ∷ 0 ∷ 0 ∷ 0 ∷ 2 ∷ 0 ∷ 0 ∷ 0 ∷ 7 ∷ 0 ∷ 0 ∷ 0 ∷ 0
-    ∷ 1 ∷ 0 ∷ 0 ∷ 0 ∷ 10 ∷ 0 ∷ 0 ∷ 0 ∷ 3 ∷ 0 ∷ 0 ∷ 0 ∷ 10 ∷ 0 ∷ 0 ∷ 0 ∷ 0
-    ∷ []
 
 -- the fifth table and a byte behind it
 abbrev pub longer : List ℕ
@@ -48,13 +24,15 @@ pub record Sample : Type 0 where
 abbrev pub sample : Start → List ℕ → String → Sample
 sample start bytes text = record { start = start; bytes = bytes; text = text }
 
--- Document 01's rounds are those from `OwnCost`; from `EveryCost` is what the program prints (document 02, L5).
+-- Document 01's rounds are those from `OwnCost`; from `EveryCost` is what the program prints (SPECIFICATION 5.1; document 02, L5).
 unfoldable pub samples : List Sample
 samples =
     sample OwnCost fifth "tasks 3\n0 response 1 deadline 4 rounds 1\n1 response 3 deadline 6 rounds 2\n2 response 10 deadline 10 rounds 5\nschedulable\n"
     ∷ sample EveryCost fifth "tasks 3\n0 response 1 deadline 4 rounds 1\n1 response 3 deadline 6 rounds 1\n2 response 10 deadline 10 rounds 4\nschedulable\n"
     ∷ sample OwnCost late "tasks 2\n0 response 20 deadline 20 rounds 1\n1 late deadline 25 rounds 2\nlate 1\n"
     ∷ sample EveryCost late "tasks 2\n0 response 20 deadline 20 rounds 1\n1 late deadline 25 rounds 1\nlate 1\n"
+    ∷ sample EveryCost sections "tasks 4\n0 response 2 deadline 5 rounds 1\n1 response 10 deadline 12 rounds 1\n2 response 19 deadline 40 rounds 2\n3 response 26 deadline 50 rounds 3\nschedulable\n"
+    ∷ sample EveryCost delays "tasks 2\n0 response 20 deadline 20 rounds 1\n1 response 25 deadline 25 rounds 1\nschedulable\n"
     ∷ sample EveryCost longer "refused 4 at 0\n"
     ∷ sample EveryCost refused "refused 5 at 31\n"
     ∷ []
