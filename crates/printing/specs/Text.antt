@@ -1,4 +1,4 @@
--- What the program prints for a table, its verdict and the words of both slices (document 01, "Worked tables").
+-- What the program prints for a table, its verdict and the words of both slices (SPECIFICATION 10; document 01, "Worked tables").
 -- Assumes nothing.
 use Prim.Native.Nat.{ℕ, zero, suc, _+_, _^_}
 use Prim.Native.Char.{code}

@@ -1,4 +1,5 @@
-// Document 01's text for a table and its verdict. It is built in a lent buffer, so that a program writes it in one call.
+// The text for a table and its verdict (SPECIFICATION 10; document 01). It is built in a lent buffer, so that a program writes it in one
+// call.
 ghost use mathlib.Core.Path.{_≡_};
 ghost use Prim.Native.Nat.{_<_};
 ghost use lib.ListN.{getD};

@@ -1,4 +1,5 @@
--- What is told of the old start (document 02, L5): the rounds from it, and where its verdict or its answers differ a line more.
+-- What is told of the old start (SPECIFICATION 5.1; document 02, L5): the rounds from it, and where its verdict or its answers differ a
+-- line more.
 -- Assumes nothing.
 use Prim.Native.Nat.{ℕ, zero, suc}
 use mathlib.Core.Bool.{Bool}

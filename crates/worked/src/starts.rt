@@ -1,4 +1,4 @@
-// The old start's side of an entry (document 02, L5): the rounds from it, and whether all else is as from the default.
+// The old start's side of an entry (SPECIFICATION 5.1; document 02, L5): the rounds from it, and whether all else is as from the default.
 ghost use Rattle.printing.specs.Appended.{Appended};
 ghost use Rattle.worked.specs.Starts.{numbersText, ownCostText};
 use model::Place;
