@@ -7,7 +7,7 @@ use mathlib.Core.List.{List, [], _∷_, map}
 use Rattle.model.specs.Tables.{Task, Row, Table}
 use Rattle.encoding.specs.Bytes.{encode}
 
--- examples/fifth.table: document 01's fifth worked table
+-- examples/fifth.table: the fifth worked table (SPECIFICATION 12; document 01, "Worked tables")
 abbrev pub fifth : List ℕ
 fifth =
     1 ∷ 0 ∷ 56 ∷ 3 ∷ 0

@@ -58,7 +58,7 @@ pub record PlayRefusals : Type 0 where
   pub accepted : (bytes answers left : List ℕ) (refusal : Refusal) → TableRight bytes → RoomFor bytes (length answers) (length answers) →
       Plain bytes → ¬ Played bytes answers (Refused refusal) left
 
--- "It is proved to do what a run of document 01 does at every tick": `EveryTick`, for the tasks of any accepted table
+-- "It is proved to do what a run of document 01 does at every tick" (SPECIFICATION 9): `EveryTick`, for the tasks of any accepted table
 abbrev pub TableEveryTick : Type 0
 TableEveryTick =
     (bytes : List ℕ) → TableRight bytes → (ticks : ℕ) (s : Schedule) →

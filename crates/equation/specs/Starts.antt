@@ -15,6 +15,7 @@ use Rattle.equation.specs.Sequence.{term, rounds}
 use Rattle.equation.specs.Laws.{NotAbove, costOf, noLoad}
 
 -- "the task's cost and blocking plus one cost of every more urgent task", or "the old start": document 01's "x0 = C_i + B_i"
+-- (SPECIFICATION 5.1)
 abbrev pub firstTerm : Start → ℕ → ℕ → ℕ
 firstTerm EveryCost base urgent = base + urgent
 firstTerm OwnCost base urgent = base

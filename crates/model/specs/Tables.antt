@@ -8,8 +8,8 @@ use lib.Dec.{ltb}
 use lib.ListN.{getD}
 use Rattle.model.specs.Lists.{keep}
 
--- "priority (1 byte), period T, cost C, deadline D", and the two delays: "earliest and latest delay in place of J" (document 02, L4). "A
--- larger priority number is more urgent."
+-- "priority (1 byte), period T, cost C, deadline D", and the two delays: "earliest and latest delay in place of J" (SPECIFICATION 2.3;
+-- document 02, L4). "A larger priority number is more urgent."
 pub record Task : Type 0 where
   pub priority : ℕ
   pub period : ℕ

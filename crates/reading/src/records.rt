@@ -51,7 +51,7 @@ fn latest_at(fields: DelayFields) -> usize
     }
 }
 
-// The earliest delay of the record that begins at `at`: 0 where there is J alone (document 02, L4).
+// The earliest delay of the record that begins at `at`: 0 where there is J alone (SPECIFICATION 2.3; document 02, L4).
 fn earliest(table: &[u8], fields: DelayFields, at: usize) -> Ticks
     requires { ⌜ at + 17 ≤ length (now table) ⌝ }
     ensures { λ r. ⌜ r .0 ≡ earliestFrom fields (now (table .entry)) at ⌝ }
@@ -94,7 +94,8 @@ fn longest_deadline(span: u32, period: Ticks) -> Ticks
     Ticks(longest)
 }
 
-// Where the delay begins that is at fault: the earliest, if that is out of range, else the latest (document 02, L4).
+// Where the delay begins that is at fault: the earliest, if that is out of range, else the latest (SPECIFICATION 3.1; document 02,
+// L4).
 fn delay_at(fields: DelayFields, earliest: Ticks) -> usize
     ensures { λ r. ⌜ (r ≡ delayAt fields (earliest .0)) × (r ≤ 17) ⌝ }
 {

@@ -18,7 +18,8 @@ unfoldable pub answerOf : Table → ℕ → ℕ
 answerOf table i =
     answer (baseOf table i) (loadsOf (table .tasks) i) (taskOf (table .tasks) i .latest) (taskOf (table .tasks) i .deadline)
 
--- its x0: "the task's cost and blocking plus one cost of every more urgent task", or document 01's (document 02, L5)
+-- its x0: "the task's cost and blocking plus one cost of every more urgent task", or document 01's (SPECIFICATION 5.1;
+-- document 02, L5)
 abbrev pub startOf : Start → Table → ℕ → ℕ
 startOf start table i = startFrom start (baseOf table i) (loadsOf (table .tasks) i)
 

@@ -51,7 +51,8 @@ pub record Demand1 : Type 0 where
       ¬ (result .verdict ≡ Refused refusal)
 
 -- R is "w + J_i if such a w exists and w + J_i ≤ D_i; else 0", where w is "the smallest whole number of at least 1 with demand(i, w) = w".
--- For J_i stands the latest delay, and in the demand of a more urgent task the latest minus the earliest (document 02, L4).
+-- For J_i stands the latest delay, and in the demand of a more urgent task the latest minus the earliest (SPECIFICATION 4.2 and
+-- 4.3; document 02, L4).
 pub record AnswerRight (table : Table) (i R : ℕ) : Type 0 where
   pub answered : 1 ≤ R →
       (w : ℕ) × IsSmallest (baseOf table i) (loadsOf (table .tasks) i) w × (R ≡ w + taskOf (table .tasks) i .latest)
@@ -59,7 +60,7 @@ pub record AnswerRight (table : Table) (i R : ℕ) : Type 0 where
   pub late : R ≡ 0 → (w : ℕ) → IsSmallest (baseOf table i) (loadsOf (table .tasks) i) w →
       taskOf (table .tasks) i .deadline < w + taskOf (table .tasks) i .latest
 
--- the x of document 01, "each next x is demand(i, x)", from the start used (document 02, L5)
+-- the x of document 01, "each next x is demand(i, x)", from the start used (SPECIFICATION 5; document 02, L5)
 abbrev pub x : Start → Table → ℕ → ℕ → ℕ
 x start table i k = term (baseOf table i) (loadsOf (table .tasks) i) (startOf start table i) k
 

@@ -39,8 +39,8 @@ preempted =
       drawn = serves 0 ∷ idle ∷ serves 1 ∷ serves 1 ∷ serves 2 ∷ serves 1 ∷ idle ∷ idle ∷ [];
     }
 
--- Three tasks, (4, 1), (6, 2) and (10, 3), all released at 0: document 01's fifth table. The third one's job ends with tick 9: its
--- answer is 10.
+-- Three tasks, (4, 1), (6, 2) and (10, 3), all released at 0: document 01's fifth table (SPECIFICATION 12). The third one's job ends
+-- with tick 9: its answer is 10.
 abbrev pub three : Example
 three =
     record {

@@ -15,7 +15,7 @@ use Rattle.tables.specs.Layout.{versionOf, layoutOf, statedLength, taskC
 abbrev pub LongEnough : List ℕ → Type 0
 LongEnough bytes = 5 ≤ length bytes
 
--- 2: "byte 0 isn't 1", nor 2 (document 02, L4)
+-- 2: "byte 0 isn't 1", nor 2 (SPECIFICATION 2.2; document 02, L4)
 abbrev pub VersionKnown : List ℕ → Type 0
 VersionKnown bytes = (versionOf bytes ≡ 1) ⊎ (versionOf bytes ≡ 2)
 

@@ -20,7 +20,7 @@ numberOf (NumberOutOfRange place) = 5
 numberOf (PriorityOutOfOrder place) = 6
 numberOf (SectionRow place) = 7
 numberOf NoRoom = 8
--- document 02, L1: "a new refusal 9, after 8, place 0"
+-- "a new refusal 9, after 8, place 0" (SPECIFICATION 9; document 02, L1)
 numberOf NotPlayable = 9
 
 -- "the byte offset of the first faulty field", and 0 for the others
