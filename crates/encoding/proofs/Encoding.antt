@@ -5,18 +5,17 @@ use native.Mathlib.Omega.{arith}
 use native.Mathlib.Nat.{mul-le-mul}
 use mathlib.Core.Path.{_≡_, refl, sym, _∙_, ap}
 use mathlib.Core.Logic.{_⊎_, inl, inr}
-use mathlib.Core.List.{List, [], _∷_, _++_}
-use lib.ListN.{length, getD, length-append}
+use mathlib.Core.List.{List, [], _++_}
+use lib.ListN.{length, length-append}
 use Rattle.model.specs.Tables.{Task, Row, Table, noTask, taskOf}
 use Rattle.model.proofs.Lists.{length-tabulate, getD-tabulate}
 use Rattle.tables.specs.declared.layout.DelayFields.{DelayFields}
-use Rattle.tables.specs.declared.layout.DelayFields.the-variants.{Jitter, Pair}
-use Rattle.tables.specs.declared.layout.Layout.{Layout}
+use Rattle.tables.specs.declared.layout.DelayFields.the-variants.{Jitter}
 use Rattle.tables.specs.Fields.{taskCountField, rowCountField, periodField, costField, deadlineField, earliestField, latestField, placeField, semaphoreField, longestField, CountField}
 use Rattle.tables.specs.Layout.{layoutFor, layoutOf, byteAt, halfAt, versionOf, taskCount, rowCount, lengthFor, earliestFrom, taskAt, rowAt, tasksOf, rowsOf, tableOf, Sound}
 use Rattle.tables.specs.Meaning.{CountRight, TableRight}
 use Rattle.tables.proofs.LayoutLaws.{layout-sound}
-use Rattle.encoding.specs.Bytes.{twoBytes, headBytes, recordBytes, rowBytes, joined, encode}
+use Rattle.encoding.specs.Bytes.{headBytes, recordBytes, rowBytes, joined, encode}
 use Rattle.encoding.specs.Statements.{noRow, rowOf, Fits, AreBytes, Encoded}
 use Rattle.encoding.proofs.JoinLaws.{Stands, stands-from, stands-whole, whole-is, stands-first, stands-second, stands-both, length-joined, stands-each, stands-all}
 use Rattle.encoding.proofs.PieceLaws.{Small, record-read, row-read, record-stands, row-stands}

@@ -1,17 +1,16 @@
 -- A record and a row, written as bytes and read back, and the other way.
 -- Assumes nothing.
-use Prim.Native.Nat.{ℕ, zero, suc, _+_, _*_, _/_, _%_, _≤_, _<_}
+use Prim.Native.Nat.{ℕ, zero, suc, _+_, _*_, _/_, _%_, _<_}
 use native.Mathlib.Omega.{arith}
 use native.Mathlib.Nat.{add-zero}
 use mathlib.Core.Path.{_≡_, refl, sym, _∙_, ap}
-use mathlib.Core.List.{List, [], _∷_, _++_}
-use lib.ListN.{length}
+use mathlib.Core.List.{List, [], _∷_}
 use Rattle.model.specs.Tables.{Task, Row}
 use Rattle.model.proofs.Tasks.{same-task, same-row}
 use Rattle.tables.specs.declared.layout.DelayFields.{DelayFields}
 use Rattle.tables.specs.declared.layout.DelayFields.the-variants.{Jitter, Pair}
 use Rattle.tables.specs.declared.layout.Layout.{Layout}
-use Rattle.tables.specs.Layout.{byteAt, halfAt, wordAt, earliestFrom, latestAt, recordFrom, rowFrom}
+use Rattle.tables.specs.Layout.{byteAt, wordAt, earliestFrom, latestAt, recordFrom, rowFrom}
 use Rattle.encoding.specs.Bytes.{fourBytes, delayBytes, recordBytes, rowBytes}
 use Rattle.encoding.specs.Statements.{AreBytes}
 use Rattle.encoding.proofs.JoinLaws.{Stands, stands-from, stands-both, word-in}

@@ -7,7 +7,6 @@ use lib.ListN.{length}
 use Rattle.model.specs.Tables.{Task, Row, Table}
 use Rattle.tables.specs.declared.layout.DelayFields.{DelayFields}
 use Rattle.tables.specs.declared.layout.DelayFields.the-variants.{Jitter, Pair}
-use Rattle.tables.specs.declared.layout.Layout.{Layout}
 use Rattle.tables.specs.Layout.{layoutFor, lengthFor}
 
 -- "All numbers are unsigned and big-endian.": a number in two bytes, and in four

@@ -1,6 +1,6 @@
 -- How three lent slices of numbers are a list of loads, and within which limits the sums are made.
 -- Assumes nothing.
-use Prim.Native.Nat.{ℕ, _+_, _≤_, _<_}
+use Prim.Native.Nat.{ℕ, _≤_, _<_}
 use mathlib.Core.List.{List}
 use lib.ListN.{length, getD}
 use Rattle.model.specs.Lists.{tabulate}

@@ -10,7 +10,6 @@ use mathlib.Core.Logic.{inl, inr}
 use lib.Dec.{eqb}
 use lib.ListN.{length, set, replicate, length-replicate, getD-replicate}
 use borrow.Author.Tests.{eq-eqb, ne-eqb}
-use Rattle.model.specs.Choice.{pick}
 use Rattle.model.specs.Lists.{filled, wordOf}
 use Rattle.model.specs.Search.{firstFrom}
 use Rattle.model.proofs.Lists.{getD-filled, length-filled}

@@ -1,6 +1,6 @@
 -- Demands 1 to 3 for bytes, and that the contract of `analyse` leaves no second answer.
 -- Assumes nothing.
-use Prim.Native.Nat.{ℕ, _+_, _-_, _≤_, _<_}
+use Prim.Native.Nat.{ℕ, _+_, _≤_, _<_}
 use native.Mathlib.Omega.{arith}
 use native.Mathlib.Decide.{decLe}
 use native.Mathlib.Nat.{add-zero}
@@ -22,7 +22,6 @@ use Rattle.tables.specs.declared.Check.the-variants as check
 use Rattle.tables.specs.Layout.{taskCount, rowCount, tasksOf, rowAt, tableOf}
 use Rattle.tables.specs.Refusals.{at, isClean}
 use Rattle.tables.specs.Checks.{tableCheck}
-use Rattle.tables.specs.Meaning.{TableRight, RoomFor}
 use Rattle.tables.proofs.CheckLaws.{table-deserved, table-gives, table-right, table-clean}
 use Rattle.equation.specs.declared.Start.{Start}
 use Rattle.equation.specs.Starts.{PeriodsLow}

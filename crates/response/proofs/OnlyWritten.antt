@@ -1,22 +1,21 @@
 -- The sentences of demand 2 leave no second result.
 -- Assumes nothing.
-use Prim.Native.Nat.{ℕ, suc, _+_, _-_, _≤_, _<_}
+use Prim.Native.Nat.{ℕ, _≤_, _<_}
 use native.Mathlib.Omega.{arith}
 use native.Mathlib.Decide.{decLe}
 use mathlib.Core.Path.{_≡_, refl, sym, _∙_, ap}
-use mathlib.Core.Logic.{_⊎_, inl, inr}
+use mathlib.Core.Logic.{inl, inr}
 use mathlib.Core.List.{List}
 use lib.ListN.{length}
 use lib.Seq.{ext-getD}
 use Rattle.model.specs.Lists.{wordOf}
-use Rattle.model.specs.Tables.{Table, taskOf, loadsOf}
+use Rattle.model.specs.Tables.{Table}
 use Rattle.model.specs.declared.Place.{Place}
 use Rattle.tables.specs.Layout.{taskCount, tableOf}
 use Rattle.equation.specs.declared.Start.{Start}
 use Rattle.answering.specs.declared.Verdict.{Verdict}
 use Rattle.answering.specs.declared.Verdict.the-variants as verdict
-use Rattle.response.specs.Outcome.{Call, Left}
-use Rattle.response.specs.Statements.{AnswerRight, RoundsRight, ResultRight, Written, OnlyWritten}
+use Rattle.response.specs.Statements.{AnswerRight, RoundsRight, ResultRight, OnlyWritten}
 use Rattle.response.proofs.Demands.{same-left}
 
 module _ (table : Table) (i : ℕ) where

@@ -1,8 +1,8 @@
 -- The worked tables as bytes: one test, computed over the whole list in each version, and the rule at each row of it.
 -- Assumes nothing.
-use Prim.Native.Nat.{ℕ, _≤_, _<_}
+use Prim.Native.Nat.{ℕ, _<_}
 use native.Mathlib.Omega.{arith}
-use mathlib.Core.Path.{_≡_, refl, sym, _∙_, ap}
+use mathlib.Core.Path.{_≡_, refl, _∙_, ap}
 use mathlib.Core.Bool.{Bool, true, false}
 use mathlib.Core.List.{List, [], _∷_}
 use lib.Dec.{eqb}
@@ -23,9 +23,8 @@ use Rattle.tables.specs.Rules.{countTest, lengthsAgree, priorityFits, recordTes
 use Rattle.tables.specs.Checks.{countsCheck, recordCheck, rowCheck, headCheck, recordsCheck, rowsCheck, bodyCheck, roomCheck, tableCheckSpanning, tableCheck}
 use Rattle.tables.proofs.CheckLaws.{table-right}
 use Rattle.encoding.specs.Bytes.{joined, encode}
-use Rattle.equation.specs.declared.Start.{Start}
 use Rattle.response.specs.Analysis.{answerOf, roundsOf}
-use Rattle.response.specs.Outcome.{Left, lending, Outcome}
+use Rattle.response.specs.Outcome.{lending}
 use Rattle.response.specs.Statements.{Accepted}
 use Rattle.response.specs.Worked.{Said, nothing, says, Worked, workedTable, workedTables, Gives, WorkedRight, EachRight, WorkedTablesRight, versionsOf, WorkedBytes, EachVersion, EachInBytes, WorkedTablesInBytes}
 use Rattle.response.proofs.Demands.{answer-word, rounds-word}
