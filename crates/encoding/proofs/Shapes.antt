@@ -110,6 +110,7 @@ allShapes =
       exist = λ version n m known few rows most. (
         encode version (shape n m),
         record {
+          areBytes = encoded .areBytes version (shape n m) (shape-fits n version m known few rows (omega arith));
           accepted = encoded .accepted version (shape n m) (shape-fits n version m known few rows (omega arith));
           inVersion = refl;
           tasks = length-tabulate (shapeTask n) n;

@@ -49,6 +49,7 @@ pub record Encoded : Type 0 where
 
 -- Bytes of that shape are accepted: so many tasks and so many rows, in that version.
 pub record HasShape (version n m : ℕ) (bytes : List ℕ) : Type 0 where
+  pub areBytes : AreBytes bytes
   pub accepted : TableRight bytes
   pub inVersion : versionOf bytes ≡ version
   pub tasks : taskCount bytes ≡ n

@@ -5,9 +5,9 @@ use native.Mathlib.Omega.{arith}
 use mathlib.Core.Path.{_≡_, refl, _∙_, ap}
 use mathlib.Core.Bool.{Bool, true, false}
 use mathlib.Core.List.{List, [], _∷_}
-use lib.Dec.{eqb}
+use lib.Dec.{eqb, leb}
 use lib.ListN.{length}
-use borrow.Author.Tests.{eqb-true}
+use borrow.Author.Tests.{eqb-true, leb-true}
 use Rattle.model.specs.Choice.{both}
 use Rattle.model.specs.Lists.{tabulate, wordOf}
 use Rattle.model.specs.Search.{firstOf}
@@ -23,6 +23,8 @@ use Rattle.tables.specs.Rules.{countTest, lengthsAgree, priorityFits, recordTes
 use Rattle.tables.specs.Checks.{countsCheck, recordCheck, rowCheck, headCheck, recordsCheck, rowsCheck, bodyCheck, roomCheck, tableCheckSpanning, tableCheck}
 use Rattle.tables.proofs.CheckLaws.{table-right}
 use Rattle.encoding.specs.Bytes.{joined, encode}
+use Rattle.encoding.specs.Statements.{AreBytes}
+use Rattle.encoding.proofs.ByteLaws.{are-none, are-more}
 use Rattle.response.specs.Analysis.{answerOf, roundsOf}
 use Rattle.response.specs.Outcome.{lending}
 use Rattle.response.specs.Statements.{Accepted}
@@ -71,12 +73,25 @@ gives-same : (f g : ℕ → ℕ) (n : ℕ) (said : Said) → ((i : ℕ) → i < 
 gives-same f g n nothing same given = tt
 gives-same f g n (says words) same given = tabulate-same f g n same ∙ given
 
--- the test of one table in one version: it is accepted, has as many tasks as entries, and is read back
+-- is each number of a list a byte?
+allBytes : List ℕ → Bool
+allBytes [] = true
+allBytes (x ∷ xs) = both (leb x 255) (allBytes xs)
+
+all-bytes : (xs : List ℕ) → allBytes xs ≡ true → AreBytes xs
+unfolding allBytes
+all-bytes [] p = are-none
+all-bytes (x ∷ xs) p =
+    let b = both-true (leb x 255) (allBytes xs) p in
+    are-more x xs (leb-true x 255 (b .0)) (all-bytes xs (b .1))
+
+-- the test of one table in one version: its numbers are bytes, it is accepted, has as many tasks as entries, and is read back
 test : Worked → ℕ → Bool
 test w version =
-    both (isClean (tableCheck (encode version (workedTable w)) (length (w .entries)) (length (w .entries))))
+    both (allBytes (encode version (workedTable w)))
+    (both (isClean (tableCheck (encode version (workedTable w)) (length (w .entries)) (length (w .entries))))
     (both (eqb (taskCount (encode version (workedTable w))) (length (w .entries)))
-    (sameTable (tableOf (encode version (workedTable w))) (workedTable w)))
+    (sameTable (tableOf (encode version (workedTable w))) (workedTable w))))
 
 clean-is : (c : Check) → isClean c ≡ true → c ≡ check.Clean
 clean-is check.Clean p = refl
@@ -90,10 +105,11 @@ module _ (w : Worked) (version : ℕ) where
   n = length (w .entries)
 
   -- what the test says is what is wanted
-  worked-bytes : WorkedRight w → tableCheck bytes n n ≡ check.Clean → taskCount bytes ≡ n → tableOf bytes ≡ workedTable w → WorkedBytes w version
-  worked-bytes right clean counted back =
+  worked-bytes : WorkedRight w → AreBytes bytes → tableCheck bytes n n ≡ check.Clean → taskCount bytes ≡ n → tableOf bytes ≡ workedTable w → WorkedBytes w version
+  worked-bytes right are clean counted back =
       let accepted = table-right 1 bytes n n clean .0 in
       record {
+        areBytes = are;
         accepted = accepted;
         readBack = back;
         answered = λ start answers rounds result o answersLong roundsLong.
@@ -112,9 +128,10 @@ module _ (w : Worked) (version : ℕ) where
   test-means : WorkedRight w → test w version ≡ true → WorkedBytes w version
   unfolding test
   test-means right p =
-      let first = both-true (isClean (tableCheck bytes n n)) _ p in
+      let numbers = both-true (allBytes bytes) _ p in
+      let first = both-true (isClean (tableCheck bytes n n)) _ (numbers .1) in
       let second = both-true (eqb (taskCount bytes) n) (sameTable (tableOf bytes) (workedTable w)) (first .1) in
-      worked-bytes right (clean-is (tableCheck bytes n n) (first .0)) (eqb-true (taskCount bytes) n (second .0))
+      worked-bytes right (all-bytes bytes (numbers .0)) (clean-is (tableCheck bytes n n) (first .0)) (eqb-true (taskCount bytes) n (second .0))
       (table-same (tableOf bytes) (workedTable w) (second .1))
 
 -- over the versions of a table, and over all tables
@@ -141,7 +158,7 @@ each-in-bytes (w ∷ ws) right p =
     (each-version w (right .0) (versionsOf w) (b .0), each-in-bytes ws (right .1) (b .1))
 
 computed : testAll workedTables ≡ true
-unfolding testAll testEach test sameBy workedTables tabulate joined layoutFor firstOf unless orElse firstIn fieldsCheck countTest lengthsAgree priorityFits recordTest rowAfter rowTest countsCheck recordCheck rowCheck headCheck recordsCheck rowsCheck bodyCheck roomCheck tableCheckSpanning
+unfolding testAll testEach test allBytes sameBy workedTables tabulate joined layoutFor firstOf unless orElse firstIn fieldsCheck countTest lengthsAgree priorityFits recordTest rowAfter rowTest countsCheck recordCheck rowCheck headCheck recordsCheck rowsCheck bodyCheck roomCheck tableCheckSpanning
 computed = refl
 
 pub workedTablesInBytes : WorkedTablesInBytes

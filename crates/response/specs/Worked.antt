@@ -13,6 +13,7 @@ use Rattle.model.specs.Tables.{Task, Row, Table}
 use Rattle.tables.specs.Layout.{tableOf}
 use Rattle.tables.specs.Meaning.{TableRight}
 use Rattle.encoding.specs.Bytes.{encode}
+use Rattle.encoding.specs.Statements.{AreBytes}
 use Rattle.blocking.specs.Ceilings.{blockingOf}
 use Rattle.equation.specs.declared.Start.{Start}
 use Rattle.equation.specs.declared.Start.the-variants.{EveryCost, OwnCost}
@@ -132,8 +133,10 @@ noEarliest (e ∷ es) = both (eqb (e .earliest) 0) (noEarliest es)
 abbrev pub versionsOf : Worked → List ℕ
 versionsOf w = pick (noEarliest (w .entries)) (1 ∷ 2 ∷ []) (2 ∷ [])
 
--- The table's bytes in a version are accepted and read back as it, and what is left for them, from each start, is what is said.
+-- The table's bytes in a version are bytes, are accepted and read back as it, and what is left for them, from each start, is what is
+-- said.
 pub record WorkedBytes (w : Worked) (version : ℕ) : Type 0 where
+  pub areBytes : AreBytes (encode version (workedTable w))
   pub accepted : TableRight (encode version (workedTable w))
   pub readBack : tableOf (encode version (workedTable w)) ≡ workedTable w
   pub answered : (start : Start) (answers rounds : List ℕ) (result : Left) →
