@@ -35,8 +35,9 @@ DeservedBy lent refusal = Deserved (lent .bytes) (length (lent .answers)) (lengt
 -- an `Outcome`, and there is one for either start and all bytes and slices.
 pub record Demand1 : Type 0 where
   pub answered : (start : Start) (lent : Call) → (result : Left) × Outcome start lent result
-  -- "the first that applies is given, and it is given only when it applies", at "the byte offset of the first faulty field" (document
-  -- 02, L3): `Deserved` says which; "A refusal returns the number and the place, and changes no word."
+  -- "the first that applies is given, and it is given only when it applies", at "the byte offset of the first faulty field"
+  -- (SPECIFICATION 3; document 01, "Refusals"; document 02, L3): `Deserved` says which; "A refusal returns the number and the place, and
+  -- changes no word."
   pub refused : (start : Start) (lent : Call) (result : Left) (refusal : Refusal) → Outcome start lent result → result .verdict ≡ Refused refusal →
       DeservedBy lent refusal × (result .answers ≡ lent .answers) × (result .rounds ≡ lent .rounds)
   -- and whatever deserves a refusal gets it
@@ -64,7 +65,7 @@ abbrev pub x : Start → Table → ℕ → ℕ → ℕ
 x start table i k = term (baseOf table i) (loadsOf (table .tasks) i) (startOf start table i) k
 
 -- "Rounds is the smallest k ≥ 1 with x_k = x_(k−1) or x_k + J_i > D_i", "at most D_i − J_i − x0 + 1 when x0 + J_i ≤ D_i, and is 1
--- otherwise", with the latest delay for J_i and the start used for x0
+-- otherwise" (SPECIFICATION 5.2 and 5.3; document 01, "The equation"), with the latest delay for J_i and the start used for x0
 pub record RoundsRight (start : Start) (table : Table) (i k : ℕ) : Type 0 where
   pub positive : 1 ≤ k
   pub last : (x start table i k ≡ x start table i (k - 1))
@@ -75,7 +76,7 @@ pub record RoundsRight (start : Start) (table : Table) (i k : ℕ) : Type 0 wher
       k ≤ taskOf (table .tasks) i .deadline - taskOf (table .tasks) i .latest - startOf start table i + 1
   pub otherwise : taskOf (table .tasks) i .deadline < startOf start table i + taskOf (table .tasks) i .latest → k ≡ 1
 
--- "the result is "schedulable" or "late" with the first place whose answer is 0"
+-- "the result is "schedulable" or "late" with the first place whose answer is 0" (SPECIFICATION 6; document 01, "Refusals")
 abbrev pub ResultRight : (ℕ → ℕ) → ℕ → Verdict → Type 0
 ResultRight answers n (Refused refusal) = ⊥
 ResultRight answers n Schedulable = (i : ℕ) → i < n → 1 ≤ answers i
@@ -83,6 +84,7 @@ ResultRight answers n (Late place) =
     (place .0 < n) × (answers (place .0) ≡ 0) × ((i : ℕ) → i < place .0 → 1 ≤ answers i)
 
 -- "Otherwise words 0 to n−1 of each answer slice are written, answers in the first and rounds in the second, later words stay"
+-- (SPECIFICATION 6; document 01, "Refusals")
 pub record Written (start : Start) (lent : Call) (result : Left) : Type 0 where
   pub answersRight : (i : ℕ) → i < taskCount (lent .bytes) → AnswerRight (tableOf (lent .bytes)) i (wordOf (result .answers) i)
   pub roundsRight : (i : ℕ) → i < taskCount (lent .bytes) → RoundsRight start (tableOf (lent .bytes)) i (wordOf (result .rounds) i)
@@ -100,7 +102,8 @@ Demand2 = (start : Start) (lent : Call) (result : Left) → Outcome start lent r
 abbrev pub OnlyWritten : Type 0
 OnlyWritten = (start : Start) (lent : Call) (result other : Left) → Written start lent result → Written start lent other → result ≡ other
 
--- "show that no second answer satisfies it": the verdict and every word of both slices are determined, on refusal also
+-- "show that no second answer satisfies it" (SPECIFICATION 6; document 01, "What the contracts owe"): the verdict and every word of both
+-- slices are determined, on refusal also
 abbrev pub NoSecondAnswer : Type 0
 NoSecondAnswer = (start : Start) (lent : Call) (result other : Left) → Outcome start lent result → Outcome start lent other → result ≡ other
 
