@@ -4,7 +4,7 @@ use Prim.Native.Nat.{ℕ, zero, suc, _+_, _*_, _/_, _%_, _≤_, _<_}
 use native.Mathlib.Omega.{arith}
 use native.Mathlib.Nat.{mul-le-mul}
 use mathlib.Core.Path.{_≡_, refl, sym, _∙_, ap}
-use mathlib.Core.Logic.{_⊎_, inl, inr}
+use mathlib.Core.Logic.{inl, inr}
 use mathlib.Core.List.{List, [], _++_}
 use lib.ListN.{length, length-append}
 use Rattle.model.specs.Tables.{Task, Row, Table, noTask, taskOf}
@@ -13,7 +13,7 @@ use Rattle.tables.specs.declared.layout.DelayFields.{DelayFields}
 use Rattle.tables.specs.declared.layout.DelayFields.the-variants.{Jitter}
 use Rattle.tables.specs.Fields.{taskCountField, rowCountField, periodField, costField, deadlineField, earliestField, latestField, placeField, semaphoreField, longestField, CountField}
 use Rattle.tables.specs.Layout.{layoutFor, layoutOf, byteAt, halfAt, versionOf, taskCount, rowCount, lengthFor, earliestFrom, taskAt, rowAt, tasksOf, rowsOf, tableOf, Sound}
-use Rattle.tables.specs.Meaning.{CountRight, TableRight}
+use Rattle.tables.specs.Meaning.{Known, CountRight, TableRight}
 use Rattle.tables.proofs.LayoutLaws.{layout-sound}
 use Rattle.encoding.specs.Bytes.{headBytes, recordBytes, rowBytes, joined, encode}
 use Rattle.encoding.specs.Statements.{noRow, rowOf, Fits, AreBytes, Encoded}
@@ -23,7 +23,7 @@ use Rattle.encoding.proofs.RuleLaws.{list-is, fields-same, sections-sam
 use Rattle.encoding.proofs.ByteLaws.{are-none, are-more, are-both, are-joined, are-record, are-row}
 
 -- a record is as long as its version says
-record-sized : (version : ℕ) → (version ≡ 1) ⊎ (version ≡ 2) → (t : Task) →
+record-sized : (version : ℕ) → Known version → (t : Task) →
     length (recordBytes (layoutFor version .delays) t) ≡ layoutFor version .size
 unfolding layoutFor
 record-sized version (inl one) t = rw one
@@ -39,7 +39,7 @@ task-held bytes i h = sym (getD-tabulate (taskAt bytes) (taskCount bytes) i noTa
 row-held : (bytes : List ℕ) (k : ℕ) → k < rowCount bytes → rowAt bytes k ≡ rowOf (rowsOf bytes) k
 row-held bytes k h = sym (getD-tabulate (rowAt bytes) (rowCount bytes) k noRow h)
 
-module _ (version : ℕ) (table : Table) (known : (version ≡ 1) ⊎ (version ≡ 2)) where
+module _ (version : ℕ) (table : Table) (known : Known version) where
   abbrev sizes : (t : Task) → length (recordBytes (layoutFor version .delays) t) ≡ layoutFor version .size
   sizes = record-sized version known
 
@@ -169,7 +169,7 @@ module _ (version : ℕ) (table : Table) (fits : Fits version table) where
           (are-more (lengthFor (layoutFor version) (length (table .tasks)) (length (table .rows)) % 256) _ (omega arith)
           (are-more (length (table .tasks)) _ (omega (arith, few)) (are-more (length (table .rows)) [] (omega (arith, fits .rows .high)) are-none))))
         where
-          version-small : (version ≡ 1) ⊎ (version ≡ 2) → version ≤ 255
+          version-small : Known version → version ≤ 255
           version-small (inl one) = omega arith
           version-small (inr two) = omega arith
 

@@ -4,7 +4,7 @@ use Prim.Native.Nat.{ℕ, zero, suc, _+_, _*_, _-_, _/_, _%_, _≤_, _<_}
 use native.Mathlib.Omega.{arith}
 use native.Mathlib.Decide.{ℕ-discrete}
 use mathlib.Core.Path.{_≡_, refl, sym}
-use mathlib.Core.Logic.{_⊎_, inl, inr}
+use mathlib.Core.Logic.{inl, inr}
 use mathlib.Core.List.{List}
 use lib.ListN.{length}
 use Rattle.model.specs.Lists.{tabulate}
@@ -12,13 +12,13 @@ use Rattle.model.specs.Tables.{Task, Row, Table, noTask, taskOf}
 use Rattle.model.proofs.Lists.{length-tabulate, getD-tabulate}
 use Rattle.tables.specs.Fields.{RecordField, periodField, costField, deadlineField, earliestField, latestField, priorityField, RowField, placeField, semaphoreField, longestField, orderField}
 use Rattle.tables.specs.Layout.{layoutFor, taskCount, rowCount, rowAt}
-use Rattle.tables.specs.Meaning.{Within, TaskFieldRight, SectionFieldRight, TableRight}
+use Rattle.tables.specs.Meaning.{Known, Within, TaskFieldRight, SectionFieldRight, TableRight}
 use Rattle.encoding.specs.Bytes.{encode}
 use Rattle.encoding.specs.Statements.{noRow, rowOf, Fits, AllShapes}
 use Rattle.encoding.proofs.RuleLaws.{fields-same, sections-same}
 use Rattle.encoding.proofs.Encoding.{encoded}
 
-most-tasks : (version : ℕ) → (version ≡ 1) ⊎ (version ≡ 2) → layoutFor version .most ≡ 32
+most-tasks : (version : ℕ) → Known version → layoutFor version .most ≡ 32
 unfolding layoutFor
 most-tasks version (inl one) = rw one
 most-tasks version (inr two) = rw two
@@ -47,11 +47,12 @@ module _ (n : ℕ) where
   row-right m k h most longestField = record { low = omega arith; high = omega arith }
   row-right m k h most orderField = λ before e. record { byPlace = omega arith; thenSemaphore = λ same. omega arith }
 
-  shape-fits : (version m : ℕ) → (version ≡ 1) ⊎ (version ≡ 2) → Within 1 32 n → Within 0 64 m → m ≤ 16 * n → Fits version (shape m)
+  shape-fits : (version m : ℕ) → Known version → Within 1 (layoutFor version .most) n → Within 0 64 m → m ≤ 16 * n →
+      Fits version (shape m)
   shape-fits version m known few rows most =
       record {
         known = known;
-        tasks = rw tasks-long (record { low = few .low; high = rw (most-tasks version known) (few .high) });
+        tasks = rw tasks-long few;
         rows = rw rows-long rows;
         eachTask = λ i h field.
             let inside : i < n = omega (arith, tasks-long) in
@@ -61,7 +62,7 @@ module _ (n : ℕ) where
             rw tasks-long
             (sections-same n shapeTask (taskOf (tabulate shapeTask n)) task-at m shapeRow (rowOf (tabulate shapeRow m)) row-at k inside
             (row-right m k inside most));
-        priorities = λ i h. rw (sym (task-at i (omega (arith, tasks-long)))) (omega (arith, few .high));
+        priorities = λ i h. rw (sym (task-at i (omega (arith, tasks-long)))) (omega (arith, few .high, most-tasks version known));
         noEarliest = λ e i h. rw (sym (task-at i (omega (arith, tasks-long))));
       }
     where

@@ -3,14 +3,13 @@
 -- Assumes nothing.
 use Prim.Native.Nat.{ℕ, _*_, _≤_, _<_}
 use mathlib.Core.Path.{_≡_}
-use mathlib.Core.Logic.{_⊎_}
 use mathlib.Core.List.{List}
 use lib.ListN.{length, getD}
 use Rattle.model.specs.Tables.{Row, Table, taskOf}
 use Rattle.tables.specs.declared.layout.DelayFields.the-variants.{Jitter}
 use Rattle.tables.specs.Fields.{RecordField, RowField}
 use Rattle.tables.specs.Layout.{layoutFor, byteAt, versionOf, taskCount, rowCount, tableOf}
-use Rattle.tables.specs.Meaning.{Within, TaskFieldRight, SectionFieldRight, TableRight}
+use Rattle.tables.specs.Meaning.{Known, Within, TaskFieldRight, SectionFieldRight, TableRight}
 use Rattle.encoding.specs.Bytes.{encode}
 
 -- a row that holds nothing: what stands past the end of a list of rows
@@ -23,7 +22,7 @@ rowOf rows k = getD rows k noRow
 -- A table within the rules of a version: the rules are the very ones that accepted bytes keep. Bytes add that a priority is at most 255,
 -- and that version 1 has no place for an earliest delay.
 pub record Fits (version : ℕ) (table : Table) : Type 0 where
-  pub known : (version ≡ 1) ⊎ (version ≡ 2)
+  pub known : Known version
   pub tasks : Within 1 (layoutFor version .most) (length (table .tasks))
   pub rows : Within 0 64 (length (table .rows))
   pub eachTask : (i : ℕ) → i < length (table .tasks) → (field : RecordField) → TaskFieldRight 1 (taskOf (table .tasks)) i field
@@ -55,9 +54,9 @@ pub record HasShape (version n m : ℕ) (bytes : List ℕ) : Type 0 where
   pub tasks : taskCount bytes ≡ n
   pub rows : rowCount bytes ≡ m
 
--- Which shapes exist: all with 1 to 32 tasks and 0 to 64 rows, 32 and 64 among them, but that a task has a row for each of 16 semaphores
--- at most, since rows strictly rise.
+-- Which shapes exist: all with 1 task to as many as the version allows, which is 32, and 0 to 64 rows, 32 and 64 among them; but that a
+-- task has a row for each of 16 semaphores at most, since rows strictly rise.
 pub record AllShapes : Type 0 where
-  pub exist : (version n m : ℕ) → (version ≡ 1) ⊎ (version ≡ 2) → Within 1 32 n → Within 0 64 m → m ≤ 16 * n →
+  pub exist : (version n m : ℕ) → Known version → Within 1 (layoutFor version .most) n → Within 0 64 m → m ≤ 16 * n →
       (bytes : List ℕ) × HasShape version n m bytes
   pub noOthers : (version n m : ℕ) (bytes : List ℕ) → HasShape version n m bytes → m ≤ 16 * n

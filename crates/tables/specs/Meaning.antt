@@ -16,8 +16,11 @@ abbrev pub LongEnough : List ℕ → Type 0
 LongEnough bytes = 5 ≤ length bytes
 
 -- 2: "byte 0 isn't 1", nor 2 (SPECIFICATION 2.2; document 02, L4)
+abbrev pub Known : ℕ → Type 0
+Known version = (version ≡ 1) ⊎ (version ≡ 2)
+
 abbrev pub VersionKnown : List ℕ → Type 0
-VersionKnown bytes = (versionOf bytes ≡ 1) ⊎ (versionOf bytes ≡ 2)
+VersionKnown bytes = Known (versionOf bytes)
 
 -- a number in its range, both ends allowed
 pub record Within (lowest highest number : ℕ) : Type 0 where
