@@ -8,13 +8,12 @@ use mathlib.Core.Logic.{inl, inr}
 use mathlib.Core.List.{List, [], _++_}
 use lib.ListN.{length, length-append}
 use Rattle.model.specs.Tables.{Task, Row, Table, noTask, taskOf}
-use Rattle.model.proofs.Lists.{length-tabulate, getD-tabulate}
 use Rattle.tables.specs.declared.layout.DelayFields.{DelayFields}
 use Rattle.tables.specs.declared.layout.DelayFields.the-variants.{Jitter}
 use Rattle.tables.specs.Fields.{taskCountField, rowCountField, periodField, costField, deadlineField, earliestField, latestField, placeField, semaphoreField, longestField, CountField}
 use Rattle.tables.specs.Layout.{layoutFor, layoutOf, byteAt, halfAt, versionOf, taskCount, rowCount, lengthFor, earliestFrom, taskAt, rowAt, tasksOf, rowsOf, tableOf, Sound}
 use Rattle.tables.specs.Meaning.{Known, CountRight, TableRight}
-use Rattle.tables.proofs.LayoutLaws.{layout-sound}
+use Rattle.tables.proofs.LayoutLaws.{layout-sound, task-is, tasks-count, row-is, rows-count}
 use Rattle.encoding.specs.Bytes.{headBytes, recordBytes, rowBytes, joined, encode}
 use Rattle.encoding.specs.Statements.{noRow, rowOf, Fits, AreBytes, Encoded}
 use Rattle.encoding.proofs.JoinLaws.{Stands, stands-from, stands-whole, whole-is, stands-first, stands-second, stands-both, length-joined, stands-each, stands-all}
@@ -31,13 +30,6 @@ record-sized version (inr two) t = rw two
 
 row-sized : (r : Row) → length (rowBytes r) ≡ 6
 row-sized r = refl
-
--- what is read at a place is what the list holds there
-task-held : (bytes : List ℕ) (i : ℕ) → i < taskCount bytes → taskAt bytes i ≡ taskOf (tasksOf bytes) i
-task-held bytes i h = sym (getD-tabulate (taskAt bytes) (taskCount bytes) i noTask h)
-
-row-held : (bytes : List ℕ) (k : ℕ) → k < rowCount bytes → rowAt bytes k ≡ rowOf (rowsOf bytes) k
-row-held bytes k h = sym (getD-tabulate (rowAt bytes) (rowCount bytes) k noRow h)
 
 module _ (version : ℕ) (table : Table) (known : Known version) where
   abbrev sizes : (t : Task) → length (recordBytes (layoutFor version .delays) t) ≡ layoutFor version .size
@@ -175,12 +167,6 @@ module _ (version : ℕ) (table : Table) (fits : Fits version table) where
 
 -- what accepted bytes mean
 module _ (bytes : List ℕ) (are : AreBytes bytes) (right : TableRight bytes) where
-  tasks-count : length (tasksOf bytes) ≡ taskCount bytes
-  tasks-count = length-tabulate (taskAt bytes) (taskCount bytes)
-
-  rows-count : length (rowsOf bytes) ≡ rowCount bytes
-  rows-count = length-tabulate (rowAt bytes) (rowCount bytes)
-
   no-earliest : (fields : DelayFields) (start : ℕ) → fields ≡ Jitter → earliestFrom fields bytes start ≡ 0
   no-earliest fields start e = rw e
 
@@ -188,27 +174,27 @@ module _ (bytes : List ℕ) (are : AreBytes bytes) (right : TableRight bytes) wh
   means-fit =
       record {
         known = right .head .version;
-        tasks = rw tasks-count (right .head .counts taskCountField);
-        rows = rw rows-count (right .head .counts rowCountField);
+        tasks = rw (tasks-count bytes) (right .head .counts taskCountField);
+        rows = rw (rows-count bytes) (right .head .counts rowCountField);
         eachTask = λ i h field.
-            let inside : i < taskCount bytes = omega (arith, tasks-count) in
-            fields-same (taskCount bytes) (taskAt bytes) (taskOf (tasksOf bytes)) (task-held bytes) 1 i inside field (right .records i inside field);
+            let inside : i < taskCount bytes = omega (arith, tasks-count bytes) in
+            fields-same (taskCount bytes) (taskAt bytes) (taskOf (tasksOf bytes)) (λ j l. sym (task-is bytes j l)) 1 i inside field (right .records i inside field);
         eachRow = λ k h.
-            let inside : k < rowCount bytes = omega (arith, rows-count) in
-            rw tasks-count
-            (sections-same (taskCount bytes) (taskAt bytes) (taskOf (tasksOf bytes)) (task-held bytes) (rowCount bytes) (rowAt bytes)
-            (rowOf (rowsOf bytes)) (row-held bytes) k inside (right .rows k inside));
+            let inside : k < rowCount bytes = omega (arith, rows-count bytes) in
+            rw (tasks-count bytes)
+            (sections-same (taskCount bytes) (taskAt bytes) (taskOf (tasksOf bytes)) (λ j l. sym (task-is bytes j l)) (rowCount bytes) (rowAt bytes)
+            (rowOf (rowsOf bytes)) (λ j l. sym (row-is bytes noRow j l)) k inside (right .rows k inside));
         priorities = λ i h.
-            let inside : i < taskCount bytes = omega (arith, tasks-count) in
-            rw (sym (task-held bytes i inside)) (are .each _);
+            let inside : i < taskCount bytes = omega (arith, tasks-count bytes) in
+            rw (task-is bytes i inside) (are .each _);
         noEarliest = λ e i h.
-            let inside : i < taskCount bytes = omega (arith, tasks-count) in
-            rw (sym (task-held bytes i inside)) (no-earliest (layoutOf bytes .delays) _ e);
+            let inside : i < taskCount bytes = omega (arith, tasks-count bytes) in
+            rw (task-is bytes i inside) (no-earliest (layoutOf bytes .delays) _ e);
       }
 
   -- the head of accepted bytes
   head-stands : Stands bytes 0 (headBytes (versionOf bytes) (length (tasksOf bytes)) (length (rowsOf bytes)))
-  head-stands = rw (tasks-count, rows-count) (record { is = each })
+  head-stands = rw (tasks-count bytes, rows-count bytes) (record { is = each })
     where
       long : lengthFor (layoutOf bytes) (taskCount bytes) (rowCount bytes) ≡ halfAt bytes 1
       long = right .head .lengths .summed ∙ sym (right .head .lengths .stated)
@@ -228,19 +214,19 @@ module _ (bytes : List ℕ) (are : AreBytes bytes) (right : TableRight bytes) wh
       (stands-both bytes (joined (recordBytes (layoutOf bytes .delays)) (tasksOf bytes)) (joined rowBytes (rowsOf bytes)) 5
       (stands-all (recordBytes (layoutOf bytes .delays)) (layoutOf bytes .size) sizes bytes noTask (tasksOf bytes) 5
       (λ i h.
-      rw (sym (task-held bytes i (omega (arith, tasks-count))))
+      rw (task-is bytes i (omega (arith, tasks-count bytes)))
       (record-stands bytes are (layoutOf bytes) (5 + layoutOf bytes .size * i))))
       (stands-from
       (stands-all rowBytes 6 row-sized bytes noRow (rowsOf bytes) (5 + layoutOf bytes .size * taskCount bytes)
       (λ k h.
-      rw (sym (row-held bytes k (omega (arith, rows-count))))
+      rw (row-is bytes noRow k (omega (arith, rows-count bytes)))
       (row-stands bytes are (5 + layoutOf bytes .size * taskCount bytes + 6 * k))))
       (omega (
         arith,
-        ap (λ (n : ℕ). layoutOf bytes .size * n) tasks-count,
+        ap (λ (n : ℕ). layoutOf bytes .size * n) (tasks-count bytes),
         length-joined (recordBytes (layoutOf bytes .delays)) (layoutOf bytes .size) sizes (tasksOf bytes),
       )))))
-      (length-encoded (versionOf bytes) (tableOf bytes) (right .head .version) ∙ rw (tasks-count, rows-count) (right .head .lengths .summed))
+      (length-encoded (versionOf bytes) (tableOf bytes) (right .head .version) ∙ rw (tasks-count bytes, rows-count bytes) (right .head .lengths .summed))
     where
       sizes : (t : Task) → length (recordBytes (layoutOf bytes .delays) t) ≡ layoutOf bytes .size
       sizes = record-sized (versionOf bytes) (right .head .version)

@@ -25,7 +25,7 @@ use Rattle.tables.specs.Layout.{taskCount, rowCount, tasksOf, tableOf, latestIn
 use Rattle.tables.specs.Refusals.{at, isClean}
 use Rattle.tables.specs.Checks.{roomCheck, tableCheck, tableCheckSpanning}
 use Rattle.tables.specs.Meaning.{TableRight, RoomFor}
-use Rattle.tables.proofs.LayoutLaws.{layout-sound}
+use Rattle.tables.proofs.LayoutLaws.{layout-sound, task-is, tasks-count}
 use Rattle.tables.proofs.CheckLaws.{table-deserved, table-gives, table-right, table-clean}
 use Rattle.machine.specs.Machine.{after, bitOf}
 use Rattle.machine.proofs.SameLaws.{Same}
@@ -39,7 +39,7 @@ use Rattle.response.specs.Outcome.{verdictFor}
 use Rattle.tables.proofs.PlaceLaws.{refusal-place}
 use Rattle.response.specs.Statements.{Accepted}
 use Rattle.response.proofs.PlaceLaws.{result-place}
-use Rattle.response.proofs.TableLaws.{task-is, tasks-count, tasks-fit}
+use Rattle.response.proofs.TableLaws.{tasks-fit}
 use Rattle.response.proofs.Demands.{refused-by, result-cases, answers-kept, verdict-given, plain-answer, answers-filled, result-is}
 use Rattle.engine.specs.Run.{engineAfter, engineAnswer, AsInRun}
 use Rattle.engine.specs.Outcome.{isPlain, playCheck, playVerdict, playWords}

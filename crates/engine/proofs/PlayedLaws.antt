@@ -22,7 +22,7 @@ use Rattle.tables.specs.Layout.{taskCount, rowCount, tasksOf, latestIn}
 use Rattle.tables.specs.Refusals.{at, firstIn, orElse, unless}
 use Rattle.tables.specs.Checks.{readCheck, tableCheck}
 use Rattle.tables.specs.Meaning.{TableRight}
-use Rattle.tables.proofs.LayoutLaws.{layout-sound}
+use Rattle.tables.proofs.LayoutLaws.{layout-sound, task-is, tasks-count}
 use Rattle.tables.proofs.CheckLaws.{read-right}
 use Rattle.tables.proofs.OrderLaws.{read-clean, read-decides, room-decides, all-pass}
 use Rattle.machine.specs.Machine.{after, played, upTo}
@@ -32,7 +32,6 @@ use Rattle.answering.specs.declared.Verdict.{Verdict}
 use Rattle.answering.specs.declared.Verdict.the-variants as verdict
 use Rattle.answering.specs.Results.{isSchedulable, lateAt, resultOf}
 use Rattle.reading.specs.Columns.{RecordColumn, periodColumn, costColumn, deadlineColumn, latestColumn, RowColumn, TableHeld}
-use Rattle.response.proofs.TableLaws.{task-is, tasks-count}
 use Rattle.engine.specs.Run.{engineAfter, engineAnswer, periodsOf, costsOf, deadlinesOf}
 use Rattle.engine.specs.Outcome.{Played, isPlain, playCheck, playVerdict, playWords}
 use Rattle.engine.specs.Held.{NumbersHeld}

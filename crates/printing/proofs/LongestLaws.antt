@@ -19,7 +19,7 @@ use Rattle.tables.specs.Fields.{taskCountField, costField, deadlineField}
 use Rattle.tables.specs.Layout.{layoutFor, layoutOf, taskCount, recordStart, deadlineAt, deadlineIn, tasksOf, tableOf}
 use Rattle.tables.specs.Refusals.{numberOf, placeOf}
 use Rattle.tables.specs.Meaning.{TableRight}
-use Rattle.tables.proofs.LayoutLaws.{layout-sound}
+use Rattle.tables.proofs.LayoutLaws.{layout-sound, task-is}
 use Rattle.encoding.specs.Bytes.{joined}
 use Rattle.equation.specs.declared.Start.{Start}
 use Rattle.equation.specs.Laws.{costOf}
@@ -33,7 +33,6 @@ use Rattle.response.specs.Outcome.{Call, Left, lending, leaving, Outcome, verdi
 use Rattle.response.specs.Statements.{Accepted, Written}
 use Rattle.response.proofs.Demands.{demand1, demand2}
 use Rattle.response.proofs.PlaceLaws.{verdict-place}
-use Rattle.response.proofs.TableLaws.{task-is}
 use Rattle.printing.specs.Appended.{Appended}
 use Rattle.printing.specs.Text.{bytesOf, textOf, decimalOf, withNumber, lineWithNumber, refusedLine, deadlineShown, taskLines, tasksText}
 use Rattle.printing.specs.Answered.{zeros, answerText}

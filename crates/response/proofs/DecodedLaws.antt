@@ -15,7 +15,7 @@ use Rattle.model.specs.Tables.{Task, Load, taskOf, loadOf, loadsOf}
 use Rattle.tables.specs.Fields.{taskCountField, rowCountField, periodField, costField, deadlineField, latestField, placeField, semaphoreField, longestField}
 use Rattle.tables.specs.Layout.{taskCount, rowCount, taskAt, rowAt, tasksOf, tableOf, placeIn}
 use Rattle.tables.specs.Meaning.{TableRight}
-use Rattle.tables.proofs.LayoutLaws.{layout-sound}
+use Rattle.tables.proofs.LayoutLaws.{layout-sound, task-is}
 use Rattle.reading.proofs.ColumnLaws.{holds-filled}
 use Rattle.reading.proofs.HeldLaws.{held-right}
 use Rattle.equation.specs.declared.Start.{Start}
@@ -128,7 +128,7 @@ module _ (bytes : List ℕ) (records : RecordColumn → List ℕ) (rows : RowCol
 
     module _ (i : ℕ) (h : i < n) where
       own : taskOf (tasksOf bytes) i ≡ taskAt bytes i
-      own = tables.task-is bytes i (inside h)
+      own = task-is bytes i (inside h)
 
       blocking-is : largestTo (sectionAt owners tops (rows longestColumn) (getD (records priorityColumn) i 0)) m ≡ blockingOf (tableOf bytes) i
       unfolding blockingOf
@@ -139,7 +139,7 @@ module _ (bytes : List ℕ) (records : RecordColumn → List ℕ) (rows : RowCol
           (λ k l. held .ofRows placeColumn .read k (row-inside l)) (λ k l. held .ofRows semaphoreColumn .read k (row-inside l)) (λ k l. held .ofRows longestColumn .read k (row-inside l))
           (λ k l.
           held .ofRecords priorityColumn .read (placeIn bytes k) (inside (place-inside k l))
-          ∙ sym (ap (λ (t : Task). t .priority) (tables.task-is bytes (placeIn bytes k) (inside (place-inside k l)))))
+          ∙ sym (ap (λ (t : Task). t .priority) (task-is bytes (placeIn bytes k) (inside (place-inside k l)))))
           owners tops (ownersHeld .read) (topsHeld .read) (taskOf (tasksOf bytes) i .priority)
           ∙ ap
           (λ (c : ℕ). largestOf (section (tasksOf bytes) (tabulate (rowAt bytes) c) (taskOf (tasksOf bytes) i .priority)) (tabulate (rowAt bytes) c))

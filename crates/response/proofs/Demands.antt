@@ -23,6 +23,7 @@ use Rattle.tables.specs.Layout.{taskCount, rowCount, tasksOf, rowAt, tableOf}
 use Rattle.tables.specs.Refusals.{at, isClean}
 use Rattle.tables.specs.Checks.{tableCheck}
 use Rattle.tables.proofs.CheckLaws.{table-deserved, table-gives, table-right, table-clean}
+use Rattle.tables.proofs.LayoutLaws.{tasks-count}
 use Rattle.equation.specs.declared.Start.{Start}
 use Rattle.equation.specs.Starts.{PeriodsLow}
 use Rattle.equation.proofs.Laws.{answerMeans, roundsBound}
@@ -39,7 +40,7 @@ use Rattle.response.specs.Outcome.{Call, Left, leaving, Outcome, verdict
 use Rattle.response.specs.Statements as says
 use Rattle.response.specs.Statements.{Accepted, AnswerRight, RoundsRight, ResultRight, Written}
 use Rattle.response.proofs.PlaceLaws.{schedulable-only}
-use Rattle.response.proofs.TableLaws.{tasks-count, tasks-fit, periods-of}
+use Rattle.response.proofs.TableLaws.{tasks-fit, periods-of}
 
 -- which verdict a check leads to
 pub refused-by : (c : Check) (result : Verdict) (r : Refusal) → isSchedulable result ≡ true ⊎ ((i : _) × (result ≡ verdict.Late i)) →

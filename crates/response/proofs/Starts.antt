@@ -15,6 +15,7 @@ use Rattle.tables.specs.Layout.{taskCount, tasksOf, tableOf}
 use Rattle.tables.specs.Checks.{tableCheck}
 use Rattle.tables.specs.Meaning.{TableRight}
 use Rattle.tables.proofs.CheckLaws.{table-right}
+use Rattle.tables.proofs.LayoutLaws.{tasks-count}
 use Rattle.equation.specs.declared.Start.{Start}
 use Rattle.equation.specs.declared.Start.the-variants.{EveryCost, OwnCost}
 use Rattle.equation.specs.Laws.{IsSmallest}
@@ -24,7 +25,7 @@ use Rattle.response.specs.Analysis.{baseOf, startOf, answerOf, roundsOf}
 use Rattle.response.specs.Outcome.{roundsAfter}
 use Rattle.response.specs.Statements.{x}
 use Rattle.response.specs.Starts.{cameTo, TwoStarts}
-use Rattle.response.proofs.TableLaws.{tasks-count, tasks-fit, periods-of}
+use Rattle.response.proofs.TableLaws.{tasks-fit, periods-of}
 use Rattle.response.proofs.Demands.{answer-word, rounds-word}
 
 -- never more, and at most one fewer

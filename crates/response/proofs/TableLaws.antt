@@ -8,48 +8,42 @@ use mathlib.Core.List.{List, map}
 use lib.ListN.{length}
 use borrow.Author.Tests.{lt-ltb, le-ltb}
 use Rattle.model.specs.Lists.{tabulate, keep}
-use Rattle.model.specs.Tables.{Task, Load, taskOf, noTask, loadOf, loadsOf, moreUrgent}
-use Rattle.model.proofs.Lists.{getD-tabulate, length-tabulate}
+use Rattle.model.specs.Tables.{Task, Load, loadOf, loadsOf, moreUrgent}
 use Rattle.model.proofs.Keep.{keep-prefix, map-tabulate}
 use Rattle.tables.specs.Fields.{periodField, costField, deadlineField, priorityField}
 use Rattle.tables.specs.Layout.{taskCount, taskAt, tasksOf, priorityIn}
 use Rattle.tables.specs.Meaning.{RecordsRight}
+use Rattle.tables.proofs.LayoutLaws.{task-is, tasks-count}
 use Rattle.equation.specs.Starts.{PeriodsLow}
 use Rattle.equation.proofs.StartLaws.{periods-low}
 use Rattle.runs.specs.Jobs.{TasksFit}
 use Rattle.runs.proofs.Loads.{falls}
 
 module _ (bytes : List ℕ) where
-  pub task-is : (i : ℕ) → i < taskCount bytes → taskOf (tasksOf bytes) i ≡ taskAt bytes i
-  task-is i h = getD-tabulate (taskAt bytes) (taskCount bytes) i noTask h
-
-  pub tasks-count : length (tasksOf bytes) ≡ taskCount bytes
-  tasks-count = length-tabulate (taskAt bytes) (taskCount bytes)
-
   module _ (right : RecordsRight 1 bytes (taskCount bytes)) where
     pub tasks-fit : TasksFit (tasksOf bytes)
     tasks-fit =
         record {
-          periodLow = λ i h. rw (task-is i (inside i h)) (right i (inside i h) periodField .low);
-          costLow = λ i h. rw (task-is i (inside i h)) (right i (inside i h) costField .low);
-          deadlineLow = λ i h. rw (task-is i (inside i h)) (right i (inside i h) deadlineField .low);
-          deadlineHigh = λ i h. rw (task-is i (inside i h)) (omega (arith, right i (inside i h) deadlineField .high));
+          periodLow = λ i h. rw (task-is bytes i (inside i h)) (right i (inside i h) periodField .low);
+          costLow = λ i h. rw (task-is bytes i (inside i h)) (right i (inside i h) costField .low);
+          deadlineLow = λ i h. rw (task-is bytes i (inside i h)) (right i (inside i h) deadlineField .low);
+          deadlineHigh = λ i h. rw (task-is bytes i (inside i h)) (omega (arith, right i (inside i h) deadlineField .high));
           fall = λ i h.
-              rw (task-is i (omega (arith, inside (suc i) h)), task-is (suc i) (inside (suc i) h))
+              rw (task-is bytes i (omega (arith, inside (suc i) h)), task-is bytes (suc i) (inside (suc i) h))
               (right (suc i) (inside (suc i) h) priorityField .falls i refl);
         }
       where
         inside : (i : ℕ) → i < length (tasksOf bytes) → i < taskCount bytes
-        inside i h = omega (arith, tasks-count)
+        inside i h = omega (arith, tasks-count bytes)
 
     -- the more urgent tasks are those of the places before
     later-falls : (i k : ℕ) → i < k → k < taskCount bytes → priorityIn bytes k < priorityIn bytes i
     later-falls i k l h =
         omega (
           arith,
-          falls (tasksOf bytes) tasks-fit i k l (omega (arith, tasks-count)),
-          ap (λ (t : Task). t .priority) (task-is k h),
-          ap (λ (t : Task). t .priority) (task-is i (omega arith)),
+          falls (tasksOf bytes) tasks-fit i k l (omega (arith, tasks-count bytes)),
+          ap (λ (t : Task). t .priority) (task-is bytes k h),
+          ap (λ (t : Task). t .priority) (task-is bytes i (omega arith)),
         )
 
     not-urgent : (i k : ℕ) → i ≤ k → k < taskCount bytes → priorityIn bytes k ≤ priorityIn bytes i
@@ -62,7 +56,7 @@ module _ (bytes : List ℕ) where
     pub loads-are : (load : ℕ → Load) (i : ℕ) → i < taskCount bytes → ((k : ℕ) → k < i → loadOf (taskAt bytes k) ≡ load k) →
         loadsOf (tasksOf bytes) i ≡ tabulate load i
     loads-are load i h same =
-        ap (λ (p : ℕ). map loadOf (keep (moreUrgent p) (tasksOf bytes))) (ap (λ (t : Task). t .priority) (task-is i h))
+        ap (λ (p : ℕ). map loadOf (keep (moreUrgent p) (tasksOf bytes))) (ap (λ (t : Task). t .priority) (task-is bytes i h))
         ∙ ap (map loadOf)
         (keep-prefix (moreUrgent (priorityIn bytes i)) (taskAt bytes) (taskCount bytes) i (omega arith)
         (λ k l. lt-ltb (priorityIn bytes i) (priorityIn bytes k) (later-falls k i l h))

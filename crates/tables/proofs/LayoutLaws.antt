@@ -7,9 +7,12 @@ use mathlib.Core.Path.{_≡_, _∙_, ap}
 use mathlib.Core.Bool.{true}
 use mathlib.Core.List.{List}
 use mathlib.Core.Logic.{_⊎_, inl, inr}
+use lib.ListN.{length, getD}
+use Rattle.model.specs.Tables.{Row, noTask, taskOf}
+use Rattle.model.proofs.Lists.{getD-tabulate, length-tabulate}
 use Rattle.model.proofs.Tests.{eqb?, clash}
 use Rattle.tables.specs.declared.layout.Layout.{Layout}
-use Rattle.tables.specs.Layout.{versionOne, versionTwo, noVersion, versionOf, layoutFor, layoutOf, recordStart, Sound}
+use Rattle.tables.specs.Layout.{versionOne, versionTwo, noVersion, versionOf, layoutFor, layoutOf, recordStart, taskCount, rowCount, taskAt, rowAt, tasksOf, rowsOf, Sound}
 use Rattle.tables.specs.Meaning.{VersionKnown}
 
 -- the layout of any bytes is one of three
@@ -73,3 +76,17 @@ module _ (layout : Layout) where
       let least : n ≤ 255 = omega arith in
       let most : layout .size * n ≤ 21 * 255 = mul-le-mul (s .small) least in
       omega arith
+
+-- the tasks and the rows that bytes mean: as many as they state, each where it is read
+module _ (bytes : List ℕ) where
+  pub task-is : (i : ℕ) → i < taskCount bytes → taskOf (tasksOf bytes) i ≡ taskAt bytes i
+  task-is i h = getD-tabulate (taskAt bytes) (taskCount bytes) i noTask h
+
+  pub tasks-count : length (tasksOf bytes) ≡ taskCount bytes
+  tasks-count = length-tabulate (taskAt bytes) (taskCount bytes)
+
+  pub row-is : (d : Row) (k : ℕ) → k < rowCount bytes → getD (rowsOf bytes) k d ≡ rowAt bytes k
+  row-is d k h = getD-tabulate (rowAt bytes) (rowCount bytes) k d h
+
+  pub rows-count : length (rowsOf bytes) ≡ rowCount bytes
+  rows-count = length-tabulate (rowAt bytes) (rowCount bytes)
