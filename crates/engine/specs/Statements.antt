@@ -65,7 +65,8 @@ TableEveryTick =
     LegalSchedule (tasksOf bytes) ticks (synchronous (tasksOf bytes) ticks) s → (t : ℕ) → t ≤ ticks → AsInRun (tasksOf bytes) ticks s t
 
 -- and the code does: where the columns hold the numbers of a table, what `play_all` leaves after the ticks that it played, as its
--- contract says (`PlayLeaves`), is what that run has after as many. (It stops at any tick that it plays: `EveryLimit`.)
+-- contract says (`PlayLeaves`), is what that run has after as many. (With a smaller limit it stops at any tick that it
+-- plays: `EveryLimit`.)
 abbrev pub CodeEveryTick : Type 0
 CodeEveryTick =
     (bytes periods costs deadlines latest : List ℕ) → NumbersHeld bytes periods costs deadlines latest →
