@@ -1,4 +1,4 @@
-/* plain.c: the analysis of document 01 and of document 02's L4 and L5 as one would write it in C,
+/* plain.c: the analysis of document 01 and of document 02's L4 to L6 as one would write it in C,
  * without proofs: decoded once into local arrays, one divide for each load and round, and no
  * cleverness beyond that. Compiled with -DSKIP_DIVIDE it leaves out the divides that L2 does
  * without. plain_own_cost.c compiles it with OWN_COST, for L5's other start. */
@@ -11,12 +11,16 @@
 #define ENTRY plain_analyse
 #endif
 
-static uint32_t blocking(const struct tasks *tasks, const struct rows *rows, size_t i)
+/* In what follows, end is where the group of task i ends: the places before it have its priority or
+ * a greater one. Less urgent tasks block, and all others but task i itself interfere (document 02,
+ * L6). */
+
+static uint32_t blocking(const struct tasks *tasks, const struct rows *rows, size_t i, size_t end)
 {
     uint32_t longest = 0;
 
     for (size_t r = 0; r < rows->m; r++)
-        if (rows->place[r] > i && rows->ceiling[rows->semaphore[r]] >= tasks->priority[i]
+        if (rows->place[r] >= end && rows->ceiling[rows->semaphore[r]] >= tasks->priority[i]
             && rows->length[r] > longest)
             longest = rows->length[r];
     return longest;
@@ -32,25 +36,33 @@ static uint32_t divide_up(uint32_t n, uint32_t d)
     return (n - 1) / d + 1;
 }
 
-/* The demand of task i in a window of at least 1 tick; base is C + B. */
-static uint64_t demand(const struct tasks *tasks, size_t i, uint32_t base, uint32_t window)
+/* Adds what the tasks from place j on, up to the end, ask for in a window of at least 1 tick. */
+static uint64_t add_loads(uint64_t sum, const struct tasks *tasks, size_t j, size_t end,
+                          uint32_t window)
 {
-    uint64_t sum = base;
-
-    for (size_t j = 0; j < i; j++)
+    for (; j < end; j++)
         sum += (uint64_t)divide_up(window + tasks->spread[j], tasks->T[j]) * tasks->C[j];
     return sum;
 }
 
+/* The demand of task i; base is C + B. */
+static uint64_t demand(const struct tasks *tasks, size_t i, size_t end, uint32_t base,
+                       uint32_t window)
+{
+    uint64_t sum = add_loads(base, tasks, 0, i, window);
+
+    return add_loads(sum, tasks, i + 1, end, window);
+}
+
 /* The answer of task i, and its rounds from that start. */
-static uint32_t respond(const struct tasks *tasks, size_t i, uint32_t base, uint32_t start,
-                        uint32_t *rounds)
+static uint32_t respond(const struct tasks *tasks, size_t i, size_t end, uint32_t base,
+                        uint32_t start, uint32_t *rounds)
 {
     uint32_t window = start, done = 1, answer = 0;
 
     if (start + tasks->latest[i] <= tasks->D[i]) {
         for (;; done++) {
-            uint64_t next = demand(tasks, i, base, window);
+            uint64_t next = demand(tasks, i, end, base, window);
 
             if (next + tasks->latest[i] > tasks->D[i])
                 break;
@@ -71,7 +83,8 @@ uint64_t ENTRY(const uint8_t *table, size_t table_len,
 {
     struct tasks tasks;
     struct rows rows;
-    uint32_t costs = 0; /* one of every more urgent task; from a task's own cost it stays 0 */
+    size_t end = 0;
+    uint32_t costs = 0; /* one of every task before the end */
     uint64_t result = read_table(table, table_len, &tasks, &rows);
 
     if (result)
@@ -80,12 +93,19 @@ uint64_t ENTRY(const uint8_t *table, size_t table_len,
         return verdict(8, 0);
 
     for (size_t i = 0; i < tasks.n; i++) {
-        uint32_t base = tasks.C[i] + blocking(&tasks, &rows, i);
+        uint32_t base, start;
 
-        answers[i] = respond(&tasks, i, base, base + costs, &rounds[i]);
-#ifndef OWN_COST
-        costs += tasks.C[i];
+        if (i == end) /* a group begins: where does it end? */
+            do
+                costs += tasks.C[end++];
+            while (end < tasks.n && tasks.priority[end] == tasks.priority[i]);
+        base = tasks.C[i] + blocking(&tasks, &rows, i, end);
+#ifdef OWN_COST
+        start = base;
+#else
+        start = base + costs - tasks.C[i];
 #endif
+        answers[i] = respond(&tasks, i, end, base, start, &rounds[i]);
         if (answers[i] == 0 && result == 0)
             result = verdict(LATE, i);
     }

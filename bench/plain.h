@@ -7,8 +7,8 @@
 #include <stdint.h>
 
 /* The verdict is code * 4294967296 + place: code 0 is schedulable, 1 to 8 refused with that
- * number, 255 late. Rounds start at the task's cost and blocking plus one cost of every more urgent
- * task (document 02, L5). */
+ * number, 255 late. Rounds start at the task's cost and blocking plus one cost of every other task
+ * of equal or greater priority (document 02, L5 and L6). */
 uint64_t plain_analyse(const uint8_t *table, size_t table_len,
                        uint32_t *answers, size_t answers_len,
                        uint32_t *rounds, size_t rounds_len);
@@ -18,7 +18,8 @@ uint64_t plain_analyse_from_own_cost(const uint8_t *table, size_t table_len,
                                      uint32_t *answers, size_t answers_len,
                                      uint32_t *rounds, size_t rounds_len);
 
-/* The engine; the verdict is packed in the same way, and 9 is a refusal too. */
+/* The engine; the verdict is packed in the same way, and 9 is a refusal too. It refuses equal
+ * priorities with that (document 02, L6). */
 uint64_t plain_play(const uint8_t *table, size_t table_len,
                     uint32_t *answers, size_t answers_len);
 

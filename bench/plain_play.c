@@ -13,6 +13,15 @@ static int has_delay(const struct tasks *tasks)
     return 0;
 }
 
+/* Two tasks of one priority stand side by side. */
+static int has_tie(const struct tasks *tasks)
+{
+    for (size_t i = 1; i < tasks->n; i++)
+        if (tasks->priority[i] == tasks->priority[i - 1])
+            return 1;
+    return 0;
+}
+
 /* All tasks are released at tick 0 and then every T. The answers are 0 before. */
 static void play_together(const struct tasks *tasks, uint32_t *answers)
 {
@@ -62,7 +71,7 @@ uint64_t plain_play(const uint8_t *table, size_t table_len,
         return result;
     if (answers_len < tasks.n)
         return verdict(8, 0);
-    if (rows.m || has_delay(&tasks))
+    if (rows.m || has_delay(&tasks) || has_tie(&tasks))
         return verdict(9, 0);
 
     for (size_t i = 0; i < tasks.n; i++)

@@ -116,10 +116,10 @@ static uint64_t read_header(const uint8_t *table, size_t length, struct layout *
 }
 
 /* Refusals 5 and 6, record by record, at the byte of the first faulty field (document 02, L3). The
- * priority stands first and is tested last. */
+ * priority stands first and is tested last; it may be repeated but not rise (L6). */
 static uint64_t read_tasks(const uint8_t *at, const struct layout *layout, struct tasks *tasks)
 {
-    uint32_t before = 256;
+    uint8_t before = 255;
 
     for (size_t i = 0; i < tasks->n; i++, at += layout->task_bytes) {
         uint8_t priority = at[PRIORITY_AT];
@@ -138,7 +138,7 @@ static uint64_t read_tasks(const uint8_t *at, const struct layout *layout, struc
             return verdict(5, task_at(layout, i) + layout->earliest_at);
         if (latest > MOST_TICKS || earliest > latest)
             return verdict(5, task_at(layout, i) + layout->latest_at);
-        if (priority == 0 || priority >= before)
+        if (priority == 0 || priority > before)
             return verdict(6, task_at(layout, i) + PRIORITY_AT);
         before = priority;
         tasks->priority[i] = priority;

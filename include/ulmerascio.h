@@ -4,9 +4,9 @@
  * 32-bit words that the caller lends it. It writes each task's longest response time, in ticks, and
  * the rounds, the number of steps that it took to find it, and says whether every task meets its
  * deadline. It covers one processor, fixed priorities where a more urgent task takes the processor
- * at once, whole ticks, and sporadic tasks: their jobs come at least a period apart. The engine
- * comes to the same answers by playing the worst case tick by tick. docs/SPECIFICATION.md has all
- * the rules and terms.
+ * at once and several tasks may share a priority, whole ticks, and sporadic tasks: their jobs come
+ * at least a period apart. The engine comes to the same answers, for the tables that it takes, by
+ * playing the worst case tick by tick. docs/SPECIFICATION.md has all the rules and terms.
  *
  * ulmerascio_analyse is in libfirmware.a, ulmerascio_analyse_from_own_cost in libmarking.a and
  * ulmerascio_play in libplayer.a; none of them needs another, and a program may link them all.
@@ -29,6 +29,11 @@ extern "C" {
  *
  * A record has a priority, a period T, a cost C, a deadline D, and the jitter or the delays.
  *
+ * A larger priority is more urgent. Priorities may repeat from one record to the next, but not
+ * rise. Of jobs of one priority the one that was released first is served first, and of those
+ * released in one tick the one whose task stands first in the table. A task may have to wait for
+ * every other task of its own priority or a greater one, and its answer counts all of them.
+ *
  * Limits of both versions; the longest table of version 1 has 933 bytes. */
 #define ULMERASCIO_MOST_TASKS 32
 #define ULMERASCIO_LONGEST_TABLE 1061
@@ -43,11 +48,11 @@ enum ulmerascio_refusal_number {
                                       * equal */
     ULMERASCIO_REFUSED_NUMBERS = 5,  /* T, C, D, J or a delay out of range, or the earliest delay
                                       * above the latest */
-    ULMERASCIO_REFUSED_PRIORITY = 6, /* priority 0, or not below the record before */
+    ULMERASCIO_REFUSED_PRIORITY = 6, /* priority 0, or above that of the record before */
     ULMERASCIO_REFUSED_ROW = 7,      /* a section row breaks a rule */
     ULMERASCIO_REFUSED_SLICES = 8,   /* a slice has fewer than n words */
     ULMERASCIO_REFUSED_NOT_PLAYABLE = 9 /* given by ulmerascio_play alone: some jitter or delay is
-                                      * not 0, or there is a row */
+                                      * not 0, there is a row, or two tasks have one priority */
 };
 
 /* Where it was refused. The place of refusals 3, 5, 6 and 7 is the offset, from the table's first
@@ -78,14 +83,19 @@ enum ulmerascio_refusal_number {
  * The functions below take it apart.
  *
  * If the table is not refused, and n is its number of tasks, words 0 to n - 1 of answers get the
- * tasks' longest response times in ticks, 0 for a task that may miss its deadline, and words 0
- * to n - 1 of rounds get the rounds spent on them. Later words of both slices stay as they were.
- * If the table is refused, no word of either slice is changed.
+ * tasks' longest response times in ticks, 0 for a task that is not shown to meet its deadline, and
+ * words 0 to n - 1 of rounds get the rounds spent on them. Later words of both slices stay as they
+ * were. If the table is refused, no word of either slice is changed.
+ *
+ * With no delay and no rows, no job takes longer than its task's answer. For a task that shares its
+ * priority with no other some job can take that long, and an answer of 0 means that some job can
+ * miss its deadline. For a task that shares its priority neither is said: the answer may be more
+ * than any job takes, and 0 means "not shown to be in time" and no more than that.
  *
  * Rounds are counted along a sequence that rises to the answer. It starts at the task's cost and
  * blocking (the longest time for which a less urgent task can hold it up) plus one cost of every
- * more urgent task. The rounds are at most D - J - start + 1, with the latest delay for J, and 1 if
- * the start with it is above D.
+ * other task that is at least as urgent. The rounds are at most D - J - start + 1, with the latest
+ * delay for J, and 1 if the start with it is above D.
  *
  * answers_len and rounds_len are counted in words. Each pointer must be good for its length:
  * table for reading table_len bytes, answers and rounds for reading and writing answers_len and
@@ -117,8 +127,8 @@ uint64_t ulmerascio_analyse_from_own_cost(const uint8_t *table, size_t table_len
  * tick the most urgent task that has work is served; late jobs queue.
  *
  * Refusals 1 to 8 and their places are as above, 8 for its one slice; then a table with any row,
- * or with a jitter or delay that is not 0, even if it is constant, is refused with 9. The verdict
- * is packed as above, with codes 1 to 9 for a refusal.
+ * with a jitter or delay that is not 0, even if it is constant, or with two tasks of one priority
+ * is refused with 9. The verdict is packed as above, with codes 1 to 9 for a refusal.
  *
  * If the table is not refused, words 0 to n - 1 of answers get the number of ticks from 0 to the
  * end of each task's first job, 0 where that is past its deadline; later words stay. Verdict and
@@ -138,7 +148,7 @@ static inline int ulmerascio_is_schedulable(uint64_t verdict)
     return verdict >> 32 == 0;
 }
 
-/* 1 if some task may miss its deadline, else 0. */
+/* 1 if some task is not shown to meet its deadline, else 0. */
 static inline int ulmerascio_is_late(uint64_t verdict)
 {
     return verdict >> 32 == 255;

@@ -6,7 +6,8 @@ as document 01 lays them out, looks for each task's answer by search, and plays
 runs tick by tick. The engine of document 02, L1, is played from event to event, and
 knows nothing of the equation. Sentences in double quotation marks are document 01's,
 or L1's where the engine is spoken of, L3's where the places of refusals are, L4's
-where version 2 or delays are, and L5's where the starts are.
+where version 2 or delays are, L5's where the starts are, and L6's where tasks that share a
+priority are.
 
 Needs Python 3.7 or later and nothing else.
 """
@@ -14,6 +15,7 @@ Needs Python 3.7 or later and nothing else.
 import argparse
 import collections
 import enum
+import fractions
 import itertools
 import os
 import sys
@@ -144,9 +146,9 @@ def task_rules(task, before):
     # the earliest if that is out of range, else at the latest".
     yield "earliest", 5, 0 <= task.earliest <= GREATEST_TICKS
     yield "latest", 5, task.earliest <= task.latest <= GREATEST_TICKS
-    # "Priorities are 1 to 255 and strictly fall from each record to the next."
-    falls = before is None or task.priority < before.priority
-    yield "priority", 6, 1 <= task.priority <= GREATEST_PRIORITY and falls
+    # "Priorities are 1 to 255"; "Records may now repeat a priority but not rise".
+    rises = before is not None and task.priority > before.priority
+    yield "priority", 6, 1 <= task.priority <= GREATEST_PRIORITY and not rises
 
 
 def row_rules(row, before, tasks):
@@ -204,22 +206,24 @@ def ceiling_of(semaphore, tasks, rows):
 
 def blocking_of(task, tasks, rows):
     # "B of task i is the longest section among rows of less urgent tasks whose semaphore's
-    # ceiling is at least i's priority, and 0 if there is none."
+    # ceiling is at least i's priority, and 0 if there is none." "Blocking still comes from
+    # strictly lower tasks."
     sections = [row.length for row in rows
                 if tasks[row.place].priority < task.priority
                 and ceiling_of(row.semaphore, tasks, rows) >= task.priority]
     return max(sections, default=0)
 
 
-# What demand takes of a more urgent task.
+# What demand takes of a task that interferes.
 Load = collections.namedtuple("Load", "cost period spread")
 
 
-def loads_on(task, tasks):
-    # "A larger priority number is more urgent"; "latest minus earliest delay inside the
-    # interference".
+def loads_on(place, tasks):
+    # "Every other task of equal or greater priority interferes"; "latest minus earliest delay
+    # inside the interference".
     return [Load(other.cost, other.period, other.latest - other.earliest)
-            for other in tasks if other.priority > task.priority]
+            for number, other in enumerate(tasks)
+            if number != place and other.priority >= tasks[place].priority]
 
 
 def rounded_up(number, divisor):
@@ -228,7 +232,7 @@ def rounded_up(number, divisor):
 
 def demand(base, loads, window):
     # "demand(i, w) is C_i + B_i plus, over every more urgent j, C_j times (w + J_j) / T_j
-    # rounded up", with the spread for J_j; the base is C_i + B_i.
+    # rounded up", with every j that interferes, and the spread for J_j; the base is C_i + B_i.
     total = base
     for cost, period, spread in loads:
         total += cost * rounded_up(window + spread, period)
@@ -268,17 +272,19 @@ def answer_at(task, window):
     return window + task.latest
 
 
-def parts_of(task, tasks, rows):
-    """What a task's demand is made of: C_i + B_i, and the loads of the more urgent tasks."""
-    return task.cost + blocking_of(task, tasks, rows), loads_on(task, tasks)
+def parts_of(place, tasks, rows):
+    """What a task's demand is made of: C_i + B_i, and the loads of the tasks that interfere."""
+    base = tasks[place].cost + blocking_of(tasks[place], tasks, rows)
+    return base, loads_on(place, tasks)
 
 
-def response_of(task, tasks, rows):
-    return answer_at(task, skipping_search(*parts_of(task, tasks, rows), task.deadline))
+def response_of(place, tasks, rows):
+    task = tasks[place]
+    return answer_at(task, skipping_search(*parts_of(place, tasks, rows), task.deadline))
 
 
 def responses_of(tasks, rows):
-    return [response_of(task, tasks, rows) for task in tasks]
+    return [response_of(place, tasks, rows) for place in range(len(tasks))]
 
 
 # ---------------------------------------------------------------------------
@@ -288,8 +294,8 @@ def responses_of(tasks, rows):
 class Start(enum.Enum):
     """The first term, x0, of the sequence that rounds are counted in."""
 
-    # "the task's cost and blocking plus one cost of every more urgent task"; one of each, however
-    # many jobs its delays let in at once.
+    # "the task's cost and blocking plus one cost of every more urgent task", and of every other of
+    # equal priority; one of each, however many jobs its delays let in at once.
     EVERY_COST = "every cost"
     # "the old start, which gives 01's rounds, stays as a named choice": "x0 = C_i + B_i".
     OWN_COST = "own cost"
@@ -320,7 +326,8 @@ def sequence_from(start, task, base, loads):
 
 
 def rounds_of(tasks, rows, start=DEFAULT_START):
-    return [sequence_from(start, task, *parts_of(task, tasks, rows)).rounds for task in tasks]
+    return [sequence_from(start, task, *parts_of(place, tasks, rows)).rounds
+            for place, task in enumerate(tasks)]
 
 
 # ---------------------------------------------------------------------------
@@ -411,6 +418,20 @@ def listed(*entries):
             for place, entry in enumerate(entries)]
 
 
+def with_priorities(tasks, priorities):
+    return [task._replace(priority=priority) for task, priority in zip(tasks, priorities)]
+
+
+def repeated(priorities, sizes):
+    """Each of these as often as its group has tasks."""
+    return [priority for priority, size in zip(priorities, sizes) for _ in range(size)]
+
+
+def in_groups(tasks, *sizes):
+    """The tasks of a group share a priority; the last group has priority 1."""
+    return with_priorities(tasks, repeated(range(len(sizes), 0, -1), sizes))
+
+
 def listed_rows(*entries):
     return [Row(*entry) for entry in entries]
 
@@ -422,10 +443,14 @@ def listed_rows(*entries):
 Worked = collections.namedtuple("Worked", "tasks rows responses rounds own_rounds blocking")
 
 
-def worked(tasks, responses, rows=(), rounds=None, own_rounds=None, blocking=None):
+def worked(tasks, responses, rows=(), rounds=None, own_rounds=None, blocking=None, groups=None):
     """Rounds are those from the default start, worked out by hand; own rounds are those from
-    document 01's start. These and blocking are None where document 01 prints none."""
-    return Worked(listed(*tasks), listed_rows(*rows), responses, rounds, own_rounds, blocking)
+    document 01's start. These and blocking are None where document 01 prints none. Groups are the
+    sizes of those that share a priority."""
+    tasks = listed(*tasks)
+    if groups:
+        tasks = in_groups(tasks, *groups)
+    return Worked(tasks, listed_rows(*rows), responses, rounds, own_rounds, blocking)
 
 
 FIFTH = ((4, 1, 4), (6, 2, 6), (10, 3, 10))
@@ -597,10 +622,9 @@ def source_tables():
         yield Draft(listed(*reversed(entries))).data()
     for entries in orders_of(ASSIGNMENT_TWO):
         yield Draft(listed(*entries)).data()
-    # 004's assignment 2.3 gives two tasks one priority, which document 01 refuses.
-    draft = Draft(listed(*ASSIGNMENT_TWO))
-    draft.change_task(2, priority=draft.tasks[1].priority)
-    yield draft.data()
+    # 004's assignment 2.3 gives two tasks one priority. (It counts one job of the other; L6 counts
+    # all.)
+    yield Draft(in_groups(listed(*ASSIGNMENT_TWO), 1, 2, 1)).data()
 
 
 # ---------------------------------------------------------------------------
@@ -609,7 +633,7 @@ def source_tables():
 
 Entry = collections.namedtuple("Entry", "table answers_length rounds_length")
 
-# A made table that needs more loads than this (rounds times more urgent tasks, summed) is left
+# A made table that needs more loads than this (rounds times tasks that interfere, summed) is left
 # out; the few slow tables are chosen by hand.
 MOST_LOADS = 20000
 
@@ -647,7 +671,7 @@ class Generator:
 def loads_of(tasks, rows):
     """How many times a program that does document 01's rounds works out one load. From the default
     start there are no more."""
-    return sum(place * rounds
+    return sum(len(loads_on(place, tasks)) * rounds
                for place, rounds in enumerate(rounds_of(tasks, rows, Start.OWN_COST)))
 
 
@@ -762,18 +786,22 @@ def any_small_table(generator, version=1):
     return made_table(generator, count, row_count, scale, version)
 
 
-def small_entries(generator, how_many, version=1):
+def small_entries(generator, how_many, version=1, make=any_small_table):
     for _ in range(how_many):
-        yield made_entry(generator, *any_small_table(generator, version), version)
+        yield made_entry(generator, *make(generator, version), version)
 
 
-def deadline_entries(generator, how_many, version=1):
+def relaxed(tasks):
+    """With the latest deadlines."""
+    return [task._replace(deadline=task.period) for task in tasks]
+
+
+def deadline_entries(generator, how_many, version=1, make=any_small_table):
     """Deadlines exactly at the answer, one tick below it and one above it."""
     for _ in range(how_many):
-        tasks, rows = any_small_table(generator, version)
-        for place, task in enumerate(tasks):
-            relaxed = task._replace(deadline=task.period)
-            response = response_of(relaxed, tasks, rows)
+        tasks, rows = make(generator, version)
+        responses = responses_of(relaxed(tasks), rows)
+        for place, (task, response) in enumerate(zip(tasks, responses)):
             if response:
                 wanted = response + generator.between(-1, 1)
                 tasks[place] = task._replace(deadline=max(1, min(wanted, task.period)))
@@ -964,12 +992,14 @@ def period_below_deadline(draft, number):
 
 
 def priority_fault(value):
+    """The value is 0, or above the priority of the record before; above the greatest there is
+    none, and before the first record none would be."""
     def spoil(draft, number):
         if number >= len(draft.tasks):
             return None
-        before = draft.tasks[number - 1].priority if number else None
+        before = draft.tasks[number - 1].priority if number else GREATEST_PRIORITY
         priority = value(before)
-        if priority is None or priority > GREATEST_PRIORITY:
+        if priority > GREATEST_PRIORITY:
             return None
         draft.change_task(number, priority=priority)
         return asked_by_task(draft, number, "priority")
@@ -1022,9 +1052,8 @@ EARLIEST_FAULTS = [number_fault("earliest", lambda task: GREATEST_TICKS + 1),
 LATEST_FAULTS = [number_fault("latest", lambda task: GREATEST_TICKS + 1),
                  number_fault("latest", lambda task: GREATEST_WORD)]
 PRIORITY_FAULTS = [priority_fault(lambda before: 0),
-                   priority_fault(lambda before: before),
-                   priority_fault(lambda before: None if before is None else before + 1),
-                   priority_fault(lambda before: None if before is None else GREATEST_PRIORITY)]
+                   priority_fault(lambda before: before + 1),
+                   priority_fault(lambda before: max(before + 1, GREATEST_PRIORITY))]
 PLACE_FAULTS = [row_fault(place=lambda draft, row: len(draft.tasks)),
                 row_fault(place=lambda draft, row: 255)]
 SEMAPHORE_FAULTS = [row_fault(semaphore=lambda draft, row: 0),
@@ -1071,10 +1100,10 @@ FAULTS_BY_REFUSAL = {version: faults_by_refusal(version) for version in LAYOUTS}
 Spoiled = collections.namedtuple("Spoiled", "entry refusals")
 
 
-def sound_draft(generator, version=1):
+def sound_draft(generator, version=1, make=made_table):
     """A table without fault, small enough to spoil and with rows to spoil."""
     count = generator.between(3, 5)
-    tasks, rows = made_table(generator, count, generator.between(3, 6), 60, version)
+    tasks, rows = make(generator, count, generator.between(3, 6), 60, version)
     return Draft(tasks, rows, version)
 
 
@@ -1098,9 +1127,9 @@ def can_be_written(draft):
             and draft.lent_length >= 0)
 
 
-def two_faults(generator, how_many, version=1):
+def two_faults(generator, how_many, version=1, make=made_table):
     while how_many:
-        draft = sound_draft(generator, version)
+        draft = sound_draft(generator, version, make)
         faults = [generator.pick(generator.pick(FAULTS_BY_REFUSAL[version])) for _ in range(2)]
         refusals = [fault(draft, generator.below(5)) for fault in faults]
         if None not in refusals and can_be_written(draft):
@@ -1113,8 +1142,9 @@ def alternating_faults(generator):
     for first in range(4):
         for second in range(4):
             draft = Draft(*made_table(generator, 4, 2, 60))
-            refusals = [generator.pick(FAULTS_BY_REFUSAL[1][4])(draft, first),
-                        PRIORITY_FAULTS[second and generator.below(2)](draft, second)]
+            number_refusal = generator.pick(FAULTS_BY_REFUSAL[1][4])(draft, first)
+            rise_refusal = PRIORITY_FAULTS[generator.below(2)](draft, second)
+            refusals = [number_refusal, rise_refusal or PRIORITY_FAULTS[0](draft, second)]
             yield spoiled_entry(generator, draft, refusals)
 
 
@@ -1264,10 +1294,9 @@ def first_end_entries(generator, how_many):
     """The first jobs end exactly at their deadlines; then one of them one tick after it."""
     while how_many:
         tasks = plain_tasks(generator, generator.between(1, 6), generator.pick([12, 40, 300]))
-        for place, task in enumerate(tasks):
-            relaxed = task._replace(deadline=task.period)
-            response = response_of(relaxed, tasks, [])
-            tasks[place] = task._replace(deadline=response or task.period)
+        responses = responses_of(relaxed(tasks), [])
+        tasks = [task._replace(deadline=response or task.period)
+                 for task, response in zip(tasks, responses)]
         late = generator.below(len(tasks))
         if tasks[late].deadline > 1 and is_schedulable(tasks, []):
             how_many -= 1
@@ -1379,11 +1408,13 @@ def changed_rows(draft, changes):
 
 
 def place_edges():
-    """Places counted by hand, each with the text it must get: the records of the table with
-    sections begin at bytes 5, 22, 39 and 56, its rows at 73, 79, 85 and 91."""
+    """Places counted by hand, each with the text it must get (None: any answer but a refusal): the
+    records of the table with sections begin at bytes 5, 22, 39 and 56, its rows at 73, 79, 85 and
+    91."""
     for changes, text in (
             ([(0, {"priority": 0})], "refused 6 at 5\n"),
-            ([(1, {"priority": 4})], "refused 6 at 22\n"),
+            ([(1, {"priority": 5})], "refused 6 at 22\n"),
+            ([(1, {"priority": 4})], None),
             ([(1, {"period": 0})], "refused 5 at 23\n"),
             ([(1, {"cost": 0})], "refused 5 at 27\n"),
             ([(1, {"deadline": 21})], "refused 5 at 31\n"),
@@ -1411,11 +1442,11 @@ def place_edges():
         yield changed_rows(draft, changes), text
 
 
-def spoiled_table(generator, version, count, row_count, *faults):
+def spoiled_table(generator, version, count, row_count, *faults, make=made_table):
     """A table with these faults, made one after the other, each given with the number of its
     record or row; nothing where they fit none of ten tables."""
     for _ in range(10):
-        tasks, rows = made_table(generator, count, row_count, 60 * count, version)
+        tasks, rows = make(generator, count, row_count, 60 * count, version)
         draft = Draft(tasks, rows, version)
         refusals = [fault(draft, number) for fault, number in faults]
         if None not in refusals:
@@ -1527,11 +1558,11 @@ def distant_pairs(generator, fields):
             yield from spoiled_table(generator, 1, 4, 4, *faults)
 
 
-def task_and_row_faults(generator, version):
+def task_and_row_faults(generator, version, make=made_table):
     """Any field of a record with any field of a row."""
     for first, second in itertools.product(TASK_FAULTS[version], ROW_FAULTS):
         faults = [(generator.pick(first), generator.below(3)), (generator.pick(second), 1)]
-        yield from spoiled_table(generator, version, 3, 2, *faults)
+        yield from spoiled_table(generator, version, 3, 2, *faults, make=make)
 
 
 def distant_faults(generator):
@@ -1552,11 +1583,11 @@ def far_faults(generator, version, sizes):
 def limits_of(tasks, number):
     """The least and the greatest value that each field of a record may have."""
     task = tasks[number]
-    above = tasks[number - 1].priority if number else GREATEST_PRIORITY + 1
-    below = tasks[number + 1].priority if number + 1 < len(tasks) else 0
+    above = tasks[number - 1].priority if number else GREATEST_PRIORITY
+    below = tasks[number + 1].priority if number + 1 < len(tasks) else 1
     return {"period": (task.deadline, GREATEST_TICKS), "cost": (1, GREATEST_TICKS),
             "deadline": (1, task.period), "earliest": (0, task.latest),
-            "latest": (task.earliest, GREATEST_TICKS), "priority": (below + 1, above - 1)}
+            "latest": (task.earliest, GREATEST_TICKS), "priority": (below, above)}
 
 
 def tasks_within_limits(generator, version):
@@ -1643,7 +1674,8 @@ def delay_edges():
     for changes, text in (
             ([(0, {"priority": 0})], "refused 6 at 5\n"),
             ([(0, {"earliest": 1})], "refused 5 at 22\n"),
-            ([(1, {"priority": 4})], "refused 6 at 26\n"),
+            ([(1, {"priority": 5})], "refused 6 at 26\n"),
+            ([(1, {"priority": 4})], None),
             ([(1, {"period": 0})], "refused 5 at 27\n"),
             ([(1, {"cost": 0})], "refused 5 at 31\n"),
             ([(1, {"deadline": 21})], "refused 5 at 35\n"),
@@ -1906,16 +1938,16 @@ def with_deadline(task, deadline):
     return task._replace(period=max(task.period, deadline), deadline=deadline)
 
 
-def about_starts(generator, how_many, version):
+def about_starts(generator, how_many, version, make=made_table):
     """A task's deadline at both its starts, one tick before them and one after."""
     for _ in range(how_many):
         count, scale = generator.between(2, 6), generator.pick([12, 40, 300])
-        tasks, rows = made_table(generator, count, generator.between(0, 4), scale, version)
+        tasks, rows = make(generator, count, generator.between(0, 4), scale, version)
         place = generator.between(1, count - 1)
         task = tasks[place]._replace(latest=min(tasks[place].latest, 1000),
                                      earliest=min(tasks[place].earliest, 1000))
         for start in Start:
-            first = first_term(start, *parts_of(task, tasks, rows))
+            first = first_term(start, *parts_of(place, tasks, rows))
             for deadline in range(first + task.latest - 1, first + task.latest + 2):
                 tasks[place] = with_deadline(task, max(1, deadline))
                 if loads_of(tasks, rows) <= MOST_LOADS:
@@ -1958,12 +1990,12 @@ def crowding_entries(generator, how_many, version):
             yield answered_entry(generator, tasks, [], version)
 
 
-def saving_entries(generator, how_many, version, saved):
+def saving_entries(generator, how_many, version, saved, make=made_table):
     """Schedulable, and for each task but the first so many rounds are saved: 1, or 0 although the
     starts differ."""
     while how_many:
         count, scale = generator.between(2, 5), generator.pick([12, 40, 300])
-        tasks, rows = made_table(generator, count, generator.below(4), scale, version)
+        tasks, rows = make(generator, count, generator.below(4), scale, version)
         pairs = zip(rounds_of(tasks, rows, Start.OWN_COST), rounds_of(tasks, rows))
         savings = [own - default for own, default in pairs]
         if savings[1:] == [saved] * (count - 1) and is_schedulable(tasks, rows):
@@ -1971,13 +2003,13 @@ def saving_entries(generator, how_many, version, saved):
             yield answered_entry(generator, tasks, rows, version)
 
 
-def exact_deadline_entries(generator, how_many, version):
+def exact_deadline_entries(generator, how_many, version, make=any_small_table):
     """Each deadline is the answer; then one of them is one tick short of it."""
     while how_many:
-        tasks, rows = any_small_table(generator, version)
-        relaxed = [task._replace(deadline=task.period) for task in tasks]
-        responses = responses_of(relaxed, rows)
-        if not all(responses) or loads_of(relaxed, rows) > MOST_LOADS:
+        tasks, rows = make(generator, version)
+        tasks = relaxed(tasks)
+        responses = responses_of(tasks, rows)
+        if not all(responses) or loads_of(tasks, rows) > MOST_LOADS:
             continue
         how_many -= 1
         tasks = [task._replace(deadline=response) for task, response in zip(tasks, responses)]
@@ -2036,12 +2068,17 @@ def start_slice_entries():
         yield Entry(data, *lengths)
 
 
-def start_entries(generator):
-    for table, version in itertools.product(START_TABLES, LAYOUTS):
+def in_both_versions(tables):
+    """In version 1 with the latest delay alone."""
+    for table, version in itertools.product(tables, LAYOUTS):
         tasks = table.tasks
         if version == 1:
             tasks = [task._replace(earliest=0) for task in tasks]
         yield exact_entry(Draft(tasks, table.rows, version).data())
+
+
+def start_entries(generator):
+    yield from in_both_versions(START_TABLES)
     for version in LAYOUTS:
         yield from lone_entries(generator, 4, version)
         yield from settled_entries(generator, 10, version)
@@ -2055,6 +2092,259 @@ def start_entries(generator):
     for data in itertools.chain(bound_tables(), greatest_start_tables()):
         yield exact_entry(data)
     yield from start_slice_entries()
+
+
+# ---------------------------------------------------------------------------
+# Made tables in which tasks share a priority
+# ---------------------------------------------------------------------------
+
+# All worked out by hand.
+GROUP_TABLES = [
+    # The fifth table of 01 with one priority for the last two. Each interferes with the other:
+    # 6, 7, which is late; and 6, 7, 9, 10, 10.
+    worked(FIFTH, [1, 0, 10], rounds=[1, 1, 4], own_rounds=[1, 2, 5], groups=(1, 2)),
+    # Either may have to wait for the other, as far as the equation knows; a shorter deadline of the
+    # first one then makes it 0.
+    worked([(2, 1, 2), (2, 1, 2)], [2, 2], rounds=[1, 1], own_rounds=[2, 2], groups=(2,)),
+    worked([(2, 1, 1), (2, 1, 2)], [0, 2], rounds=[1, 1], own_rounds=[1, 2], groups=(2,)),
+    # 004's assignment 2.3: 10, 13, 13 and 14, 17, 25, 30, 38, 41, 43, 51, 54, 54.
+    worked(ASSIGNMENT_TWO, [2, 0, 13, 54], rounds=[1, 1, 2, 9], own_rounds=[1, 1, 3, 10],
+           groups=(1, 2, 1)),
+    # Three tasks above one: 6, 7, 7.
+    worked([(5, 1, 5), (7, 1, 7), (9, 1, 9), (30, 3, 30)], [3, 3, 3, 7], rounds=[1, 1, 1, 2],
+           own_rounds=[2, 2, 2, 3], groups=(3, 1)),
+    # A late task interferes with an equal one too, from before it and from behind it: 10, 28, 64.
+    worked([(4, 9, 4), (60, 1, 60)], [0, 0], rounds=[1, 2], own_rounds=[1, 3], groups=(2,)),
+    worked([(60, 1, 60), (4, 9, 4)], [0, 0], rounds=[2, 1], own_rounds=[3, 1], groups=(2,)),
+    # An equal task's section does not block; a less urgent task's does, since the ceiling is the
+    # group's own priority.
+    worked([(10, 2, 10), (20, 3, 20), (20, 4, 20), (100, 4, 100)], [2, 9, 9, 15],
+           rows=((1, 1, 2), (2, 1, 3)), rounds=[1, 1, 1, 2], own_rounds=[1, 2, 2, 3],
+           blocking=[0, 0, 0, 0], groups=(1, 2, 1)),
+    worked([(10, 2, 10), (20, 3, 20), (20, 4, 20), (100, 4, 100)], [2, 15, 15, 15],
+           rows=((1, 1, 2), (2, 1, 3), (3, 1, 4)), rounds=[1, 2, 2, 2], own_rounds=[1, 3, 3, 3],
+           blocking=[0, 4, 4, 0], groups=(1, 2, 1)),
+    # The longest section of a less urgent group blocks a whole group, of which one has a row.
+    worked([(50, 2, 50), (60, 3, 60), (200, 5, 200), (200, 7, 200)], [11, 11, 17, 17],
+           rows=((1, 1, 1), (2, 1, 4), (3, 1, 6)), rounds=[1, 1, 1, 1], own_rounds=[2, 2, 2, 2],
+           blocking=[6, 6, 0, 0], groups=(2, 2)),
+    # The spread of an equal task counts, whether it stands before (18 + 12 divides evenly) or
+    # behind (18, 26, 26).
+    worked([(30, 10, 30, 0, 12), (40, 8, 40)], [30, 18], rounds=[1, 1], own_rounds=[2, 2],
+           groups=(2,)),
+    worked([(30, 10, 30), (20, 8, 20, 0, 3)], [26, 0], rounds=[2, 1], own_rounds=[3, 1],
+           groups=(2,)),
+    # All in one group.
+    worked([(100, 1, 32)] * MOST_TASKS, [32] * MOST_TASKS, rounds=[1] * MOST_TASKS,
+           own_rounds=[2] * MOST_TASKS, groups=(MOST_TASKS,)),
+    worked([(100, 1, 31)] * MOST_TASKS, [0] * MOST_TASKS, rounds=[1] * MOST_TASKS,
+           own_rounds=[1] * MOST_TASKS, groups=(MOST_TASKS,)),
+]
+
+GROUPS_TEXT = """tasks 3
+0 response 1 deadline 4 rounds 1
+1 late deadline 6 rounds 1
+2 response 10 deadline 10 rounds 4
+late 1
+"""
+
+
+def group_edges():
+    """Places counted by hand, each with the text it must get (None: any answer but a refusal). The
+    table with sections has priorities 3, 2, 2, 1 here."""
+    for changes, text in (
+            ([], None),
+            ([(0, {"priority": 2})], None),
+            ([(3, {"priority": 2})], None),
+            ([(0, {"priority": 2}), (3, {"priority": 2})], None),
+            ([(2, {"priority": 3})], "refused 6 at 39\n"),
+            ([(3, {"priority": 3})], "refused 6 at 56\n"),
+            ([(0, {"priority": 1})], "refused 6 at 22\n"),
+            ([(1, {"priority": 1})], "refused 6 at 39\n"),
+            ([(2, {"priority": 0})], "refused 6 at 39\n"),
+            ([(3, {"priority": 0})], "refused 6 at 56\n"),
+            ([(1, {"cost": 0}), (2, {"priority": 3})], "refused 5 at 27\n"),
+            ([(2, {"latest": 1000001, "priority": 3})], "refused 5 at 52\n"),
+            ([(2, {"priority": 3}), (3, {"period": 0})], "refused 6 at 39\n")):
+        draft = Draft(in_groups(listed(*SECTIONS), 1, 2, 1), listed_rows(*SECTION_ROWS))
+        yield changed_tasks(draft, changes), text
+    yield from three_priorities()
+
+
+def three_priorities():
+    """All priorities of these in three records: the first that is 0 or rises is refused."""
+    starts = {1: (5, 22, 39), 2: (5, 26, 47)}
+    for version in LAYOUTS:
+        for priorities in itertools.product((0, 1, 2, GREATEST_PRIORITY), repeat=3):
+            tasks = with_priorities(listed(*FIFTH), priorities)
+            faulty = [start for start, priority, before
+                      in zip(starts[version], priorities, (GREATEST_PRIORITY,) + priorities)
+                      if priority == 0 or priority > before]
+            text = "refused 6 at %d\n" % faulty[0] if faulty else None
+            yield Draft(tasks, version=version).data(), text
+
+
+def made_groups(generator, count):
+    """The sizes of groups, not all 1: a single group at the start, at the end or in between, groups
+    throughout, or all tasks in one."""
+    size = generator.between(2, max(2, count - 2))
+    before = generator.pick([0, count - size, (count - size) // 2])
+    single = [1] * before + [size] + [1] * (count - before - size)
+    throughout = []
+    while sum(throughout) < count - 1:
+        throughout.append(generator.between(1, min(3, count - 1 - sum(throughout))))
+    throughout[generator.below(len(throughout))] += 1
+    return generator.pick([single, single, single, throughout, throughout, [count]])
+
+
+def with_groups(generator, tasks):
+    sizes = made_groups(generator, len(tasks))
+    return with_priorities(tasks, repeated(made_priorities(generator, len(sizes)), sizes))
+
+
+def tied_table(generator, make, *how):
+    """A table that this makes, but with groups of tasks that share a priority."""
+    while True:
+        tasks, rows = make(generator, *how)
+        if len(tasks) > 1:
+            tasks = with_groups(generator, tasks)
+            if loads_of(tasks, rows) <= MOST_LOADS:
+                return tasks, rows
+
+
+def any_tied_table(generator, version=1):
+    return tied_table(generator, any_small_table, version)
+
+
+def made_tied_table(generator, *how):
+    return tied_table(generator, made_table, *how)
+
+
+def regrouped(generator, entries):
+    """The tables of these entries with groups, but those that have one task or would need too many
+    loads."""
+    for entry in entries:
+        tasks, rows = read_table(entry.table, LONGEST_SLICE, LONGEST_SLICE)
+        if len(tasks) > 1:
+            tasks = with_groups(generator, tasks)
+            if loads_of(tasks, rows) <= MOST_LOADS:
+                yield entry._replace(table=Draft(tasks, rows, entry.table[0]).data())
+
+
+def group_size_entries(generator):
+    """Every n from 2 to 32, in turn in both versions; then 32 tasks and 64 rows, in groups of one
+    size."""
+    for count in range(2, MOST_TASKS + 1):
+        version = 1 + count % 2
+        row_count = generator.between(0, min(8, 2 * count))
+        tasks, rows = made_tied_table(generator, count, row_count, 50 * count, version)
+        yield answered_entry(generator, tasks, rows, version)
+    for version, size in itertools.product(LAYOUTS, (2, 4, 8, 16, MOST_TASKS)):
+        tasks, rows = made_table(generator, MOST_TASKS, MOST_ROWS, 3000, version)
+        tasks = in_groups(tasks, *[size] * (MOST_TASKS // size))
+        yield answered_entry(generator, tasks, rows, version)
+
+
+# Of four tasks.
+GROUP_SIZES = [(2, 1, 1), (1, 2, 1), (1, 1, 2), (2, 2), (3, 1), (1, 3), (4,)]
+
+
+def group_priority_faults(generator, version):
+    """Every fault of a priority in every record: a rise into a group, in it and after it, and a 0
+    before it, in it, at its end and after it."""
+    for sizes, fault, number in itertools.product(GROUP_SIZES, PRIORITY_FAULTS, range(4)):
+        tasks, rows = made_table(generator, 4, generator.below(3), 60, version)
+        draft = Draft(in_groups(tasks, *sizes), rows, version)
+        refusal = fault(draft, number)
+        if refusal:
+            yield spoiled_entry(generator, draft, [refusal])
+
+
+def group_row_faults(generator, version):
+    for fault, number in itertools.product(itertools.chain(*ROW_FAULTS), (0, 2)):
+        yield from spoiled_table(generator, version, 4, 3, (fault, number), make=made_tied_table)
+
+
+def group_faults(generator):
+    for version in LAYOUTS:
+        yield from group_priority_faults(generator, version)
+        yield from group_row_faults(generator, version)
+        yield from task_and_row_faults(generator, version, made_tied_table)
+
+
+def greatest_group_tables():
+    """The largest sums, and some that look right to words that are too narrow, with loads before
+    the task and behind it."""
+    top, others = GREATEST_TICKS, MOST_TASKS - 1
+    for period, jitter in itertools.product((1, top), (0, top)):
+        loads = [(period, top, period, jitter)] * others
+        yield Draft(in_groups(listed(*loads, (top, 1, top)), MOST_TASKS)).data()
+        yield Draft(in_groups(listed((top, 1, top), *loads), MOST_TASKS)).data()
+    for cost in (1, 7, 40000):
+        # One load of 65536 times 65536, which is 2^32: cut to 32 bits, demand is the cost.
+        load, task = (1, 65536, 1, 65536 - cost), (top, cost, top)
+        for entries in ((load, task), (task, load)):
+            yield Draft(in_groups(listed(*entries), 2)).data()
+    # 1,000,000 ticks together, and one more.
+    share = top // MOST_TASKS
+    for more in (0, 1):
+        tasks = listed((top, share + more, top), *[(top, share, top)] * others)
+        yield Draft(in_groups(tasks, MOST_TASKS)).data()
+
+
+def slow_group_tables():
+    """Many rounds, of the last task of a group and of the first one."""
+    short = [(2, 1, 2), (3, 1, 3), (6, 1, 6)]
+    for entries in (short + [(20000, 1, 20000)], [(20000, 1, 20000)] + short):
+        yield Draft(in_groups(listed(*entries), 4)).data()
+
+
+def engine_group_entries():
+    """Two equal tasks at the start, in the middle and at the end: the engine refuses them, with 8
+    where its slice is short; and delays, rows and a wrong row beside them."""
+    for version, count in itertools.product(LAYOUTS, (2, 3, 8, MOST_TASKS)):
+        for before in ends_of(count - 1):
+            sizes = [1] * before + [2] + [1] * (count - before - 2)
+            tasks = in_groups(listed(*[(1000, 1, 1000)] * count), *sizes)
+            for lengths in ((count, 0), (count, count), (count - 1, count)):
+                yield Entry(Draft(tasks, version=version).data(), *lengths)
+    for version in LAYOUTS:
+        draft = Draft(in_groups(listed(*[(1000, 2, 1000)] * 3), 1, 2), version=version)
+        draft.change_task(1, latest=1)
+        yield exact_entry(draft.data())
+        for length in (2, 3):
+            rows = listed_rows((1, 1, length))
+            yield exact_entry(Draft(draft.tasks, rows, version).data())
+
+
+def group_slice_entries():
+    data = Draft(GROUP_TABLES[0].tasks).data()
+    for lengths in ((0, 0), (2, 3), (3, 2), (3, LONGEST_SLICE), (LONGEST_SLICE, 3)):
+        yield Entry(data, *lengths)
+
+
+def group_entries(generator):
+    yield from in_both_versions(GROUP_TABLES)
+    for data, _ in group_edges():
+        yield exact_entry(data)
+    for spoiled in group_faults(generator):
+        yield spoiled.entry
+    for version in LAYOUTS:
+        for spoiled in two_faults(generator, 40, version, made_tied_table):
+            yield spoiled.entry
+        yield from small_entries(generator, 150, version, any_tied_table)
+        yield from deadline_entries(generator, 30, version, any_tied_table)
+        yield from exact_deadline_entries(generator, 12, version, any_tied_table)
+        yield from about_starts(generator, 4, version, made_tied_table)
+        yield from saving_entries(generator, 6, version, 1, made_tied_table)
+        yield from regrouped(generator, itertools.chain(
+            limit_entries(generator, 30, version), settled_entries(generator, 8, version),
+            blocked_entries(generator, 8, version), crowding_entries(generator, 10, version)))
+    yield from group_size_entries(generator)
+    for data in itertools.chain(greatest_group_tables(), slow_group_tables()):
+        yield exact_entry(data)
+    yield from engine_group_entries()
+    yield from group_slice_entries()
 
 
 SEED = 20240101
@@ -2073,6 +2363,7 @@ def all_entries():
     yield from place_entries(Generator(SEED + 5))
     yield from delay_entries(Generator(SEED + 6))
     yield from start_entries(Generator(SEED + 7))
+    yield from group_entries(Generator(SEED + 8))
 
 
 def entry_bytes(entry):
@@ -2093,21 +2384,39 @@ def entry_text(number, entry):
 Job = collections.namedtuple("Job", "task release need")
 
 
-def play(task_count, jobs, ticks):
+def is_alone(place, tasks):
+    """No other task has its priority."""
+    return [task.priority for task in tasks].count(tasks[place].priority) == 1
+
+
+def has_ties(tasks):
+    return not all(is_alone(place, tasks) for place in range(len(tasks)))
+
+
+def levels_of(tasks):
+    """For each task how many priorities are above its own."""
+    priorities = sorted({task.priority for task in tasks}, reverse=True)
+    return [priorities.index(task.priority) for task in tasks]
+
+
+def play(tasks, jobs, ticks):
     # "In each tick the processor serves one unfinished, already released job, if there is one:
     # the most urgent task that has any, and of that task the oldest. A job may be served in its
-    # release tick."
+    # release tick." "In a run, equal jobs go oldest release first, then lower place."
     #
-    # Tasks are numbered from the most urgent. Gives for each job the first tick at which it is
-    # finished ("its whole need was served in ticks before x"), or None. Late jobs queue.
+    # So the jobs of one priority wait in one queue, and join it by release, then place. Gives for
+    # each job the first tick at which it is finished ("its whole need was served in ticks before
+    # x"), or None. Late jobs queue.
     finished = [None] * len(jobs)
     left = [job.need for job in jobs]
-    waiting = [collections.deque() for _ in range(task_count)]
-    coming = collections.deque(sorted(range(len(jobs)), key=lambda job: jobs[job].release))
+    levels = levels_of(tasks)
+    waiting = [collections.deque() for _ in tasks]
+    order = sorted(range(len(jobs)), key=lambda job: (jobs[job].release, jobs[job].task))
+    coming = collections.deque(order)
     for tick in range(ticks):
         while coming and jobs[coming[0]].release == tick:
             job = coming.popleft()
-            waiting[jobs[job].task].append(job)
+            waiting[levels[jobs[job].task]].append(job)
         queue = next((queue for queue in waiting if queue), None)
         if queue:
             left[queue[0]] -= 1
@@ -2141,7 +2450,7 @@ def random_run(generator, tasks, ticks):
 def job_exceeding(tasks, responses, jobs, ticks):
     # "For answer R above 0: every job released at r with r + R <= N is finished at r + R".
     # Gives a job for which that is false, or None.
-    finished = play(len(tasks), jobs, ticks)
+    finished = play(tasks, jobs, ticks)
     for job, end in zip(jobs, finished):
         response = responses[job.task]
         due = job.release + response
@@ -2153,7 +2462,7 @@ def job_exceeding(tasks, responses, jobs, ticks):
 def first_finish(tasks, place, ticks):
     """When the first job of a task is finished in the run released together, or None."""
     jobs = together(tasks, ticks)
-    return play(len(tasks), jobs, ticks)[jobs.index(Job(place, 0, tasks[place].cost))]
+    return play(tasks, jobs, ticks)[jobs.index(Job(place, 0, tasks[place].cost))]
 
 
 # ---------------------------------------------------------------------------
@@ -2163,8 +2472,10 @@ def first_finish(tasks, place, ticks):
 def read_playable(entry):
     """The tasks of an entry that the engine takes; it has one slice, lent as that for answers."""
     tasks, rows = read_table(entry.table, entry.answers_length, entry.answers_length)
-    # "Any nonzero jitter or delay, or any row, gets a new refusal 9, after 8, place 0".
-    refuse_when(rows or any(task.earliest or task.latest for task in tasks), 9)
+    # "Any nonzero jitter or delay, or any row, gets a new refusal 9, after 8, place 0"; "L1's
+    # engine refuses ties with 9."
+    delayed = any(task.earliest or task.latest for task in tasks)
+    refuse_when(rows or delayed or has_ties(tasks), 9)
     return tasks
 
 
@@ -2302,15 +2613,21 @@ def check_documents(checks):
         check_printed(checks, table, "table %d with delays" % number)
     for number, table in enumerate(START_TABLES):
         check_printed(checks, table, "table %d for the starts" % number)
+    for number, table in enumerate(GROUP_TABLES):
+        check_printed(checks, table, "table %d with groups" % number)
     delayed = Draft(DELAY_TABLES[0].tasks, version=2).data()
     checks.same(text_of(delayed), DELAYS_TEXT, "text of the table with delays")
+    for version in LAYOUTS:
+        grouped = Draft(GROUP_TABLES[0].tasks, version=version).data()
+        checks.same(text_of(grouped), GROUPS_TEXT, "text of the table with groups")
     # "at most 933"; and the program takes one byte more than the longest of all.
     lengths = [longest_table(version) for version in LAYOUTS] + [MOST_BYTES_TAKEN]
     checks.same(lengths, [933, 1061, 1062], "longest tables")
     for number, data in enumerate(wrapping_tables()):
         responses = responses_of(*read_table(data, MOST_TASKS, MOST_TASKS))
         checks.same(responses[-1], 0, "wrapping table %d" % number)
-    edges = itertools.chain(edge_tables(), place_edges(), delay_edges(), version_edges())
+    edges = itertools.chain(edge_tables(), place_edges(), delay_edges(), version_edges(),
+                            group_edges())
     for number, (data, wanted) in enumerate(edges):
         text = text_of(data)
         if wanted is None:
@@ -2349,12 +2666,18 @@ def check_faults(checks):
         check_two(spoiled, "two faults in version 2")
     for entry in tasks_within_limits(generator, 2):
         checks.same(refusal_of(entry), None, "within limits of version 2")
+    generator = Generator(SEED + 8)
+    for spoiled in group_faults(generator):
+        check_first(spoiled, "groups")
+    for version in LAYOUTS:
+        for spoiled in two_faults(generator, 300, version, made_tied_table):
+            check_two(spoiled, "two faults with groups")
 
 
 def check_searches(checks, tasks, rows):
     """The plain search and the skipping one."""
     for place, task in enumerate(tasks):
-        parts = parts_of(task, tasks, rows)
+        parts = parts_of(place, tasks, rows)
         checks.same(skipping_search(*parts, task.deadline), plain_search(*parts, task.deadline),
                     "search of task %d of %r" % (place, tasks))
 
@@ -2375,7 +2698,7 @@ def check_starts(checks, tasks, rows):
     reached = set()
     for place, task in enumerate(tasks):
         what = "task %d of %r" % (place, tasks)
-        parts = parts_of(task, tasks, rows)
+        parts = parts_of(place, tasks, rows)
         response = answer_at(task, skipping_search(*parts, task.deadline))
         rounds = {}
         for start in Start:
@@ -2387,8 +2710,8 @@ def check_starts(checks, tasks, rows):
             checks.same(1 <= sequence.rounds <= bound, True, "bound from %s of %s" % (start, what))
             if sequence.rounds == bound > 1:
                 reached.add(start)
-        # The second term from the task's own cost and blocking has at least one job of every more
-        # urgent task, so that it is not before the first one from every cost.
+        # The second term from the task's own cost and blocking has at least one job of every task
+        # that interferes, so that it is not before the first one from every cost.
         saved = rounds[Start.OWN_COST] - rounds[Start.EVERY_COST]
         checks.same(saved in (0, 1), True, "rounds saved of %s" % what)
     return reached
@@ -2404,17 +2727,34 @@ def check_random_runs(checks, generator, tasks):
 
 def check_run_together(checks, tasks):
     # "some run ... has such a job unfinished at r + R - 1", and for answer 0 "some run has a job
-    # with r + D <= N unfinished at r + D": the run released together is such a run.
+    # with r + D <= N unfinished at r + D": the run released together is such a run. Not so for a
+    # task that shares its priority: "For tables with ties demand 3 keeps only its first half".
     for place, response in enumerate(responses_of(tasks, [])):
-        checks.same(first_finish(tasks, place, tasks[place].deadline), response or None,
-                    "task %d of %r released together" % (place, tasks))
+        what = "task %d of %r released together" % (place, tasks)
+        end = first_finish(tasks, place, tasks[place].deadline)
+        if is_alone(place, tasks):
+            checks.same(end, response or None, what)
+        elif response:
+            checks.same(end is not None and end <= response, True, what)
+
+
+def check_drawn_run(checks):
+    """Equal jobs, drawn by hand. That of place 2 is older and goes on before that of place 1,
+    though a more urgent one comes between: ticks 0 and 2, then 3 to 5. Of two released at 10 that
+    of place 1 goes first."""
+    tasks = in_groups(listed((9, 1, 9), (9, 3, 9), (9, 2, 9)), 1, 2)
+    jobs = [Job(2, 0, 2), Job(1, 1, 3), Job(0, 1, 1), Job(2, 10, 2), Job(1, 10, 3)]
+    checks.same(play(tasks, jobs, 16), [3, 6, 2, 15, 13], "run of equal jobs")
 
 
 def check_runs(checks):
+    check_drawn_run(checks)
     generator = Generator(SEED + 2)
     for _ in range(700):
         count = generator.between(1, 4)
         tasks = without_delays(made_tasks(generator, count, generator.pick([4, 8, 15, 30])))
+        if count > 1 and generator.chance(1, 2):
+            tasks = with_groups(generator, tasks)
         check_random_runs(checks, generator, tasks)
         check_run_together(checks, tasks)
 
@@ -2461,12 +2801,12 @@ def check_delayed_runs(checks):
         for _ in range(6):
             arrivals, jobs = released_with_delays(generator, tasks, ticks)
             dues = [arrival + responses[job.task] for arrival, job in zip(arrivals, jobs)]
-            late = [job for job, due, end in zip(jobs, dues, play(count, jobs, ticks))
+            late = [job for job, due, end in zip(jobs, dues, play(tasks, jobs, ticks))
                     if responses[job.task] and due <= ticks and (end is None or end > due)]
             checks.same(late, [], "run with delays of %r" % (tasks,))
         for place, task in enumerate(tasks):
             arrival, jobs = worst_with_delays(tasks, place, 200)
-            end = play(count, jobs, arrival + task.deadline)[0]
+            end = play(tasks, jobs, arrival + task.deadline)[0]
             checks.same(end and end - arrival, responses[place] or None,
                         "worst run of task %d of %r" % (place, tasks))
 
@@ -2519,7 +2859,7 @@ def check_event_playing(checks):
             tasks = [task._replace(cost=generator.between(1, 2 * task.period)) for task in tasks]
         last = latest_deadline(tasks)
         jobs = together(tasks, last)
-        ends = play(count, jobs, last)
+        ends = play(tasks, jobs, last)
         firsts = [ends[jobs.index(Job(place, 0, task.cost))] for place, task in enumerate(tasks)]
         answers = [end if end is not None and end <= task.deadline else 0
                    for end, task in zip(firsts, tasks)]
@@ -2544,6 +2884,12 @@ def check_engine_edges(checks):
         for version in LAYOUTS:
             entry = Entry(Draft(table.tasks, table.rows, version).data(), *lengths)
             checks.same(engine_line(entry), wanted, "engine with slices of %d and %d" % lengths)
+    # "L1's engine refuses ties with 9", wherever they stand, and after 8.
+    for sizes in ((1, 2), (2, 1), (3,)):
+        tasks = in_groups(plain.tasks, *sizes)
+        for lengths, wanted in (((3, 0), "refused 9 at 0"), ((2, 3), "refused 8 at 0")):
+            entry = Entry(Draft(tasks).data(), *lengths)
+            checks.same(engine_line(entry), wanted, "engine with groups of %r" % (sizes,))
     # A constant delay is a delay: "Any nonzero jitter or delay".
     for lengths, wanted in (((2, 0), "refused 9 at 0"), ((1, 2), "refused 8 at 0")):
         entry = Entry(Draft(DELAY_TABLES[0].tasks, version=2).data(), *lengths)
@@ -2586,6 +2932,172 @@ def check_entries(checks, entries):
 
 
 # ---------------------------------------------------------------------------
+# Every run of small tables with ties
+# ---------------------------------------------------------------------------
+
+# Where a run stands between two ticks: for each task how many ticks ago its last release was, which
+# counts up to T, and for each priority, the most urgent first, the jobs that wait, the next first.
+Standing = collections.namedtuple("Standing", "since waiting")
+# A job's age, the ticks since its release, counts up to its deadline.
+Waiting = collections.namedtuple("Waiting", "place age left")
+
+
+def needs_of(task, since):
+    """What a task may release in a tick: nothing, which is 0, or a job of any need."""
+    return range(task.cost + 1) if since >= task.period else (0,)
+
+
+def standing_after(tasks, levels, standing, needs):
+    """The standing one tick later, where jobs of these needs are released at the tick's start."""
+    since = tuple(1 if need else min(ticks + 1, task.period)
+                  for task, ticks, need in zip(tasks, standing.since, needs))
+    queues = list(standing.waiting)
+    # "equal jobs go oldest release first, then lower place".
+    for place, need in enumerate(needs):
+        if need:
+            queues[levels[place]] = (*queues[levels[place]], Waiting(place, 0, need))
+    served = next((level for level, queue in enumerate(queues) if queue), None)
+    if served is not None:
+        first, *others = queues[served]
+        unfinished = [Waiting(first.place, first.age, first.left - 1)] if first.left > 1 else []
+        queues[served] = unfinished + others
+    waiting = tuple(tuple(Waiting(job.place, min(job.age + 1, tasks[job.place].deadline), job.left)
+                          for job in queue) for queue in queues)
+    return Standing(since, waiting)
+
+
+def every_standing(tasks, most_ticks=None):
+    """Every standing that a run of the tasks can come to, or can within so many ticks. What comes
+    after a standing depends on nothing else, so that each is followed once."""
+    levels = levels_of(tasks)
+    first = Standing(tuple(task.period for task in tasks), ((),) * (max(levels) + 1))
+    met, new, ticks = {first}, [first], 0
+    while new and ticks != most_ticks:
+        found = set()
+        for standing in new:
+            for needs in itertools.product(*map(needs_of, tasks, standing.since)):
+                found.add(standing_after(tasks, levels, standing, needs))
+        new = found - met
+        met |= new
+        ticks += 1
+    return met
+
+
+def longest_taken(tasks, standings):
+    """For each task the longest that a job takes, from release to end, in these; one more than its
+    deadline stands for all that is longer. A job that is unfinished takes longer than its age."""
+    longest = [1] * len(tasks)
+    for standing in standings:
+        for job in itertools.chain(*standing.waiting):
+            longest[job.place] = max(longest[job.place], job.age + 1)
+    return longest
+
+
+def job_lists(place, task, ticks, release=0):
+    """All jobs that a task can have in so many ticks, from a release on."""
+    if release >= ticks:
+        yield []
+        return
+    yield from job_lists(place, task, ticks, release + 1)
+    for rest in job_lists(place, task, ticks, release + task.period):
+        for need in range(1, task.cost + 1):
+            yield [Job(place, release, need)] + rest
+
+
+def every_run(tasks, ticks):
+    lists = (list(job_lists(place, task, ticks)) for place, task in enumerate(tasks))
+    for chosen in itertools.product(*lists):
+        yield list(itertools.chain(*chosen))
+
+
+def check_runs_one_by_one(checks, tasks, ticks):
+    """The standings are those of the runs, played one by one by the other player. Gives how many
+    there are."""
+    count, longest = 0, [1] * len(tasks)
+    for jobs in every_run(tasks, ticks):
+        count += 1
+        for job, end in zip(jobs, play(tasks, jobs, ticks)):
+            taken = (end or ticks + 1) - job.release
+            longest[job.task] = max(longest[job.task], min(taken, tasks[job.task].deadline + 1))
+    checks.same(longest_taken(tasks, every_standing(tasks, ticks)), longest,
+                "every run of %d ticks of %r" % (ticks, tasks))
+    return count
+
+
+def tasks_of_pairs(pairs, sizes):
+    """Tasks from (T, C), D being T, in groups of these sizes."""
+    return in_groups(listed(*[(period, cost, period) for period, cost in pairs]), *sizes)
+
+
+def piles_up(tasks):
+    """More work than ticks: jobs can queue without end."""
+    return sum(fractions.Fraction(task.cost, task.period) for task in tasks) > 1
+
+
+def tables_of_pairs(pairs, shapes):
+    """All tables of as many such tasks as there are in groups of each of these shapes."""
+    for sizes in shapes:
+        for chosen in itertools.product(pairs, repeat=sum(sizes)):
+            yield tasks_of_pairs(chosen, sizes)
+
+
+def small_tied_tables():
+    """Only some of the larger ones whose work piles up: they come to very many standings."""
+    pairs = [(period, cost) for period in range(1, 6) for cost in range(1, period + 1)]
+    threes = [(1, 2), (2, 1), (3,)]
+    yield from tables_of_pairs(pairs, [(2,)])
+    yield from itertools.filterfalse(piles_up, tables_of_pairs(pairs, threes))
+    yield from filter(piles_up, tables_of_pairs([(2, 1), (3, 2), (4, 2), (5, 1)], threes))
+    yield from tables_of_pairs([(3, 1), (4, 1), (5, 1)], GROUP_SIZES)
+    yield from itertools.filterfalse(piles_up, tables_of_pairs([(5, 1), (5, 2)], GROUP_SIZES))
+
+
+# More than the longest deadline among those, so that a late job is found to be late.
+TICKS_OF_PILING_RUNS = 8
+
+
+def check_every_run(checks, tasks):
+    """Every run of any length, or of some ticks where work piles up. Gives how many standings there
+    are, and how many tasks have a priority of their own."""
+    responses = responses_of(tasks, [])
+    most_ticks = TICKS_OF_PILING_RUNS if piles_up(tasks) else None
+    standings = every_standing(tasks, most_ticks)
+    alone = 0
+    for place, longest in enumerate(longest_taken(tasks, standings)):
+        what = "task %d of %r in every run" % (place, tasks)
+        # "For tables with ties demand 3 keeps only its first half: no job exceeds R."
+        if responses[place]:
+            checks.same(longest <= responses[place], True, what)
+        # The second half holds all the same for a task whose priority no other has.
+        if is_alone(place, tasks):
+            alone += 1
+            checks.same(longest, responses[place] or tasks[place].deadline + 1, what)
+    return len(standings), alone
+
+
+# The tables of which every run of so many ticks is also played by itself, in groups of these sizes.
+ONE_BY_ONE = [
+    (((2, 1), (2, 1)), (2,), 8), (((2, 1), (3, 2)), (2,), 8), (((3, 2), (2, 1)), (2,), 8),
+    (((4, 2), (5, 3)), (2,), 9), (((5, 3), (4, 2)), (2,), 9), (((1, 1), (3, 1)), (2,), 6),
+    (((2, 1), (4, 2), (4, 1)), (1, 2), 6), (((3, 1), (3, 2), (4, 1)), (2, 1), 6),
+    (((3, 1), (4, 1), (5, 2)), (3,), 6), (((4, 1), (3, 1), (5, 1), (5, 1)), (1, 2, 1), 5),
+]
+
+
+def check_shown_and_not(checks):
+    """Longest responses, worked out by hand, that are below the answers."""
+    for table, longest in (
+            # The first one's answer is 2, and no run needs it.
+            (GROUP_TABLES[1], [1, 2]),
+            # 'Answer 0 then means "not shown"': no run misses the first one's deadline, 1.
+            (GROUP_TABLES[2], [1, 2]),
+            # No run misses the second one's deadline, 6.
+            (GROUP_TABLES[0], [1, 6, 7])):
+        checks.same(longest_taken(table.tasks, every_standing(table.tasks)), longest,
+                    "every run of %r" % (table.tasks,))
+
+
+# ---------------------------------------------------------------------------
 # Tables to measure
 # ---------------------------------------------------------------------------
 
@@ -2622,12 +3134,12 @@ def with_delays(tasks):
     return [task._replace(earliest=task.period // 20, latest=task.period // 10) for task in tasks]
 
 
-def loaded_draft(count, row_count, percents, version=1):
-    """The last of these loads that is still schedulable, and its table; in version 2 with
-    delays."""
+def loaded_draft(count, row_count, percents, version=1, group=1):
+    """The last of these loads that is still schedulable, and its table; in version 2 with delays.
+    So many neighbours share a priority."""
     chosen = None
     for percent in percents:
-        tasks = loaded_tasks(count, percent)
+        tasks = in_groups(loaded_tasks(count, percent), *[group] * (count // group))
         rows = loaded_rows(tasks, row_count)
         if version == 2:
             tasks = with_delays(tasks)
@@ -2657,24 +3169,33 @@ def load_classes():
         yield load_class(count, row_count, "near full load", range(50, 101))
 
 
-def crowded_table(periods):
+def crowded_tasks(periods):
     """Tasks of cost 1 with these periods, above as many as there is room for with the longest."""
     short = [(period, 1, period) for period in periods]
     long = [(GREATEST_TICKS, 1, GREATEST_TICKS)] * (MOST_TASKS - len(short))
-    return Draft(listed(*(short + long))).data()
+    return listed(*(short + long))
 
 
 def most_loads_table():
     """The table with the most loads that a search over short periods of the first tasks found:
     42,723,557, where (1,1,1) above 31 tasks like the last ones has 30,999,756. It was the slowest
     while every load took a divide. (From document 01's start each has 496 more.)"""
-    return crowded_table((3, 11, 2, 14, 232))
+    return Draft(crowded_tasks((3, 11, 2, 14, 232))).data()
 
 
 def slowest_table():
     """The greatest cost that a search over the periods found: 41,778,441 loads. In 22,860,538 of
     them the window is longer than the period, so that they need a divide (document 02, L2)."""
-    return crowded_table((2, 11, 236, 3, 14, 136041, 32704, 57648, 167220, 143363, 185372, 221486))
+    return Draft(crowded_tasks((2, 11, 236, 3, 14, 136041, 32704, 57648, 167220, 143363, 185372,
+                                221486))).data()
+
+
+def slowest_group_table():
+    """The greatest cost that a search over periods and groups found, where all tasks share one
+    priority: 85,157,620 loads, of which 33,281,628 need a divide."""
+    tasks = crowded_tasks((2, 3, 11, 14, 236, 33040, 59107, 152549, 265660, 423753, 434143, 441049,
+                           464787, 967704, 970178))
+    return Draft(in_groups(tasks, MOST_TASKS)).data()
 
 
 def refusal_classes():
@@ -2706,12 +3227,27 @@ def delay_classes():
                    draft.data())
 
 
+def group_classes():
+    """Equal priorities: groups of 4 tasks, one priority for all, and the slowest. With one priority
+    the shorter tasks are late: where nobody is, no period is below the sum of all costs, and each
+    task takes one round."""
+    percent, draft = loaded_draft(MOST_TASKS, 0, range(50, 101), group=4)
+    yield Measured("32-groups", 100, 200, "32 tasks in 8 groups, near full load (%d%%)" % percent,
+                   draft.data())
+    draft = Draft(in_groups(loaded_tasks(MOST_TASKS, 30), MOST_TASKS))
+    yield Measured("32-one-priority", 100, 200, "32 tasks of one priority, light (30%)",
+                   draft.data())
+    yield Measured("slowest-one-priority", 1, 2,
+                   "32 tasks of one priority, the slowest table found", slowest_group_table())
+
+
 def measured_classes():
     yield from load_classes()
     yield Measured("most-loads", 1, 2, "32 tasks, the most loads found", most_loads_table())
     yield Measured("slowest", 1, 2, "32 tasks, the slowest table found", slowest_table())
     yield from refusal_classes()
     yield from delay_classes()
+    yield from group_classes()
 
 
 Playable = collections.namedtuple("Playable", "name title data")
@@ -2738,6 +3274,10 @@ def unplayable_classes():
     yield Playable("refusal-9-jitter", "refusal 9, jitter in the last of 32 tasks", draft.data())
     _, draft = loaded_draft(MOST_TASKS, MOST_ROWS, [30])
     yield Playable("refusal-9-rows", "refusal 9, 32 tasks, 64 rows", draft.data())
+    _, draft = loaded_draft(MOST_TASKS, 0, [30])
+    draft.change_task(MOST_TASKS - 1, priority=draft.tasks[MOST_TASKS - 2].priority)
+    yield Playable("refusal-9-tie", "refusal 9, one priority for the last 2 of 32 tasks",
+                   draft.data())
 
 
 def playable_classes():
@@ -2802,6 +3342,20 @@ def command_check(_arguments):
         sys.exit("reference: %d of %d checks failed" % (checks.failed, checks.done))
     print("reference: %d checks; the engine takes %d of %d tables"
           % (checks.done, taken, len(entries)))
+
+
+def command_runs(_arguments):
+    checks = Checks()
+    runs = sum(check_runs_one_by_one(checks, tasks_of_pairs(pairs, sizes), ticks)
+               for pairs, sizes, ticks in ONE_BY_ONE)
+    check_shown_and_not(checks)
+    counts = [check_every_run(checks, tasks) for tasks in small_tied_tables()]
+    if checks.failed:
+        sys.exit("reference: %d of %d checks of runs failed" % (checks.failed, checks.done))
+    print("reference: every run of %d small tables with ties, by %d standings, and %d runs one by "
+          "one: no job takes longer than its answer; for %d tasks alone at their priority both "
+          "halves hold"
+          % (len(counts), sum(met for met, _ in counts), runs, sum(alone for _, alone in counts)))
 
 
 def command_classes(arguments):
@@ -2869,6 +3423,9 @@ def parse_arguments():
                                   description=CLASSES_HELP, formatter_class=raw)
     classes.add_argument("folder", metavar="FOLDER")
     classes.set_defaults(run=command_classes)
+
+    runs = commands.add_parser("runs", help="play every run of small tables with ties")
+    runs.set_defaults(run=command_runs)
 
     plays = commands.add_parser("plays", help="write the tables on which the engine is measured",
                                 description=PLAYS_HELP, formatter_class=raw)

@@ -1,7 +1,8 @@
 /* test_firmware TABLES: calls the library through its C header and compares it, word by word,
  * with the plain C analysis and the plain C engine (bench/plain.c) on every entry of a file that
  * "tests/reference.py make" wrote, the analysis from both starts; and the engine with the analysis.
- * The places of refusals and some rounds are also compared with what was worked out by hand. */
+ * The places of refusals and some rounds are also compared with what was worked out by hand, and so
+ * are tables in which tasks share a priority. */
 #include <stdio.h>
 #include <stdlib.h>
 #include <string.h>
@@ -333,8 +334,11 @@ static const struct fault faults[] = {
     {{{30, 0}, {0, 1}}, 5, 27},   /* C is 0 */
     {{{34, 21}, {0, 1}}, 5, 31},  /* D is T + 1 */
     {{{35, 1}, {0, 1}}, 5, 35},   /* J is above 1,000,000 */
-    {{{22, 4}, {0, 1}}, 6, 22},   /* the priority is that of the record before */
-    {{{22, 4}, {35, 1}}, 5, 35},  /* the priority is tested last */
+    {{{22, 5}, {0, 1}}, 6, 22},   /* the priority rises above the record before */
+    {{{22, 5}, {35, 1}}, 5, 35},  /* the priority is tested last */
+    {{{22, 4}, {39, 5}}, 6, 39},  /* it rises after one that is repeated */
+    {{{39, 3}, {56, 4}}, 6, 56},
+    {{{39, 3}, {56, 0}}, 6, 56},  /* it is 0 after one that is repeated */
     {{{5, 0}, {26, 0}}, 6, 5},    /* but before the next record */
     {{{85, 4}, {0, 1}}, 7, 85},   /* the place is n */
     {{{86, 17}, {0, 1}}, 7, 86},  /* the semaphore is 17 */
@@ -381,8 +385,9 @@ static const struct fault delay_faults[] = {
     {{{42, 1}, {0, 2}}, 5, 43},   /* the earliest is 1, the latest 0 */
     {{{21, 11}, {0, 2}}, 5, 22},  /* the earliest is 11, the latest 10 */
     {{{38, 0}, {39, 1}}, 5, 35},  /* the delays are tested after D */
-    {{{26, 2}, {0, 2}}, 6, 26},   /* the priority is that of the record before */
-    {{{26, 2}, {42, 1}}, 5, 43},  /* the priority is tested last */
+    {{{26, 3}, {0, 2}}, 6, 26},   /* the priority rises above the record before */
+    {{{26, 3}, {42, 1}}, 5, 43},  /* the priority is tested last */
+    {{{26, 0}, {0, 2}}, 6, 26},
     {{{5, 0}, {39, 1}}, 6, 5},    /* but before the next record */
     {{{53, 2}, {0, 2}}, 7, 53},   /* the place is n */
     {{{54, 17}, {0, 2}}, 7, 54},  /* the semaphore is 17 */
@@ -474,6 +479,127 @@ static uint8_t *write_word(uint8_t *at, uint32_t word)
     return at;
 }
 
+/* A task without delays. */
+struct task {
+    uint8_t priority;
+    uint32_t T, C, D;
+};
+
+/* Writes a table of such tasks, without rows; gives its length. */
+static size_t write_table(uint8_t *at, uint8_t version, const struct task *tasks, size_t n)
+{
+    size_t length = 5 + (version == 2 ? 21 : 17) * n;
+
+    *at++ = version;
+    *at++ = (uint8_t)(length / 256);
+    *at++ = (uint8_t)(length % 256);
+    *at++ = (uint8_t)n;
+    *at++ = 0;
+    for (size_t i = 0; i < n; i++) {
+        *at++ = tasks[i].priority;
+        at = write_word(at, tasks[i].T);
+        at = write_word(at, tasks[i].C);
+        at = write_word(at, tasks[i].D);
+        for (uint8_t delays = version; delays; delays--)
+            at = write_word(at, 0);
+    }
+    return length;
+}
+
+/* Tasks that share a priority (document 02, L6), and what they get, worked out by hand. */
+struct grouped {
+    size_t n;
+    struct task tasks[4];
+    uint64_t verdict;
+    uint32_t answers[4], rounds[4], own_rounds[4];
+};
+
+static const struct grouped grouped_tables[] = {
+    /* the fifth table of document 01 with one priority for the last two: examples/groups.table */
+    {3, {{2, 4, 1, 4}, {1, 6, 2, 6}, {1, 10, 3, 10}},
+     ((uint64_t)255 << 32) + 1, {1, 0, 10}, {1, 1, 4}, {1, 2, 5}},
+    {2, {{1, 2, 1, 2}, {1, 2, 1, 2}}, 0, {2, 2}, {1, 1}, {2, 2}},
+    {2, {{255, 2, 1, 1}, {255, 2, 1, 2}}, (uint64_t)255 << 32, {0, 2}, {1, 1}, {1, 2}},
+    /* source document 004, assignment 2.3 */
+    {4, {{3, 20, 2, 6}, {2, 7, 3, 7}, {2, 14, 5, 13}, {1, 100, 4, 60}},
+     ((uint64_t)255 << 32) + 1, {2, 0, 13, 54}, {1, 1, 2, 9}, {1, 1, 3, 10}},
+    {4, {{2, 5, 1, 5}, {2, 7, 1, 7}, {2, 9, 1, 9}, {1, 30, 3, 30}},
+     0, {3, 3, 3, 7}, {1, 1, 1, 2}, {2, 2, 2, 3}},
+};
+
+/* The engine, ours and plain C's, is to give this verdict. */
+static void expect_played(const char *what, size_t number, struct table table, size_t answers_len,
+                          uint64_t wanted)
+{
+    struct played played;
+
+    compare_play(what, number, table, answers_len);
+    call_engine(ulmerascio_play, table, answers_len, &played);
+    if (played.verdict != wanted) {
+        fail_play(what, number, answers_len, played.verdict, "not", wanted);
+        exit(1);
+    }
+}
+
+static void try_grouped(size_t number, const struct grouped *grouped, uint8_t version)
+{
+    static const char what[] = "table with groups";
+    uint8_t bytes[5 + 4 * 21];
+    size_t n = grouped->n;
+    struct table table = {bytes, write_table(bytes, version, grouped->tasks, n)};
+    struct outcome outcome = compare(what, number, table, n, n);
+
+    if (outcome.verdict != grouped->verdict) {
+        printf("c: %s %lu: verdict %llx, not %llx\n", what, (unsigned long)number,
+               (unsigned long long)outcome.verdict, (unsigned long long)grouped->verdict);
+        exit(1);
+    }
+    for (size_t i = 0; i < n; i++)
+        if (outcome.answers[GUARD + i] != grouped->answers[i])
+            fail_word("answers", GUARD + i, outcome.answers[GUARD + i], grouped->answers[i]);
+    expect_rounds(&every_cost, table, grouped->rounds);
+    expect_rounds(&own_cost, table, grouped->own_rounds);
+    expect_played(what, number, table, n, (uint64_t)9 << 32);
+    expect_played(what, number, table, n - 1, (uint64_t)8 << 32);
+    try_slice_lengths(number, table, &outcome);
+}
+
+/* 32 tasks, of which one has the priority of the one before: the analysis takes them, the engine
+ * does not. A priority that rises there, or is 0, is refused at its byte. */
+static void try_neighbours(size_t place, uint8_t version)
+{
+    uint8_t bytes[5 + 32 * 21];
+    struct task tasks[32];
+    struct table table;
+    size_t at = 5 + (version == 2 ? 21 : 17) * place;
+
+    for (size_t i = 0; i < 32; i++)
+        tasks[i] = (struct task){(uint8_t)(100 - i), 1000 + (uint32_t)i, 1, 1000};
+    table = (struct table){bytes, write_table(bytes, version, tasks, 32)};
+    bytes[at] = tasks[place - 1].priority;
+    if (compare("task with the priority before", place, table, 32, 32).verdict != 0) {
+        printf("c: 32 tasks, number %lu as the one before: not schedulable\n",
+               (unsigned long)place);
+        exit(1);
+    }
+    expect_played("task with the priority before", place, table, 32, (uint64_t)9 << 32);
+    expect_played("task with the priority before", place, table, 31, (uint64_t)8 << 32);
+    bytes[at] = (uint8_t)(tasks[place - 1].priority + 1);
+    expect("task with a risen priority", place, table, ((uint64_t)6 << 32) + at);
+    bytes[at] = 0;
+    expect("task with priority 0", place, table, ((uint64_t)6 << 32) + at);
+}
+
+static void try_groups(void)
+{
+    for (uint8_t version = 1; version <= 2; version++) {
+        for (size_t i = 0; i < sizeof grouped_tables / sizeof grouped_tables[0]; i++)
+            try_grouped(i, &grouped_tables[i], version);
+        for (size_t place = 1; place < 32; place++)
+            try_neighbours(place, version);
+    }
+}
+
 /* Version 2 with 32 tasks and 64 rows, in room for one byte more, which is 0. */
 static uint8_t *longest_table(void)
 {
@@ -519,6 +645,21 @@ static void try_longest(void)
         compare("longest table with another byte", i, table, 32, 32);
         compare_play("longest table with another byte", i, table, 32);
         bytes[i] = old;
+    }
+    free(bytes);
+}
+
+/* The same table with so many neighbours in one group, the last group with what is left. */
+static void try_group_sizes(void)
+{
+    uint8_t *bytes = longest_table();
+    struct table table = {bytes, ULMERASCIO_LONGEST_TABLE};
+
+    for (size_t size = 2; size <= 32; size++) {
+        for (size_t i = 0; i < 32; i++)
+            bytes[5 + 21 * i] = (uint8_t)(32 - i / size);
+        compare("longest table in groups", size, table, 32, 32);
+        compare_play("longest table in groups", size, table, 32);
     }
     free(bytes);
 }
@@ -570,7 +711,9 @@ int main(int count, char **words)
     }
     free(data);
     try_delays();
+    try_groups();
     try_longest();
+    try_group_sizes();
     printf("c: %lu calls agree; %lu plays, %lu of them not refused\n", calls, plays, taken);
     return 0;
 }

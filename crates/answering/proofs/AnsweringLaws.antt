@@ -1,65 +1,78 @@
 -- One turn of the loop over the tasks of a decoded table.
 -- Assumes nothing.
-use Prim.Native.Nat.{ℕ, _+_, _*_, _≤_, _<_}
+use Prim.Native.Nat.{ℕ, _+_, _-_, _≤_, _<_}
 use native.Mathlib.Omega.{arith}
 use native.Mathlib.Numerals.{add-one}
-use mathlib.Core.Path.{_≡_, refl, sym, _∙_, subst}
-use mathlib.Core.List.{List}
+use mathlib.Core.Path.{_≡_, refl, sym, _∙_, ap, subst}
 use lib.ListN.{getD}
-use lib.Dec.{leb, ltb}
+use mathlib.Core.Bool.{Bool, true, false}
+use lib.Dec.{eqb, leb, ltb}
+use Rattle.model.specs.declared.Place.{Place}
 use Rattle.model.specs.Choice.{pick, both}
-use Rattle.model.specs.Lists.{largestTo, sumOf}
+use Rattle.model.specs.Lists.{largestTo, sumOf, total, wordOf}
+use Rattle.model.specs.Tables.{interferes}
 use Rattle.model.specs.Search.{firstOf}
 use Rattle.model.proofs.Lists.{largest-high}
 use Rattle.model.proofs.Tests.{on-high}
-use Rattle.model.proofs.First as first-laws
+use Rattle.model.proofs.First.{first-none}
 use Rattle.tables.specs.Refusals.{at}
 use Rattle.equation.specs.declared.Start.{Start}
 use Rattle.equation.specs.declared.Start.the-variants.{EveryCost, OwnCost}
-use Rattle.equation.specs.Slices.{loadAt, LoadsFit}
+use Rattle.equation.specs.Slices.{loads, loadAt, LoadsFit}
+use Rattle.equation.proofs.SliceLaws.{loads-less}
 use Rattle.equation.specs.Laws.{NotAbove, costOf}
 use Rattle.equation.specs.Solver.{Solvable, SolvedBy}
 use Rattle.equation.specs.Starts.{firstTerm, startFrom}
-use Rattle.equation.proofs.StartLaws.{bothStarts, periods-low, costs-none, costs-more}
+use Rattle.equation.proofs.StartLaws.{bothStarts, periods-low, costs-others}
 use Rattle.blocking.specs.Slices.{sectionAt}
 use Rattle.answering.specs.declared.Verdict.{Verdict}
-use Rattle.answering.specs.declared.Verdict.the-variants.{Schedulable}
+use Rattle.answering.specs.declared.Verdict.the-variants.{Refused, Schedulable, Late}
 use Rattle.answering.specs.Results.{isSchedulable, lateIf, lateAt, resultOf}
-use Rattle.answering.specs.Slices.{Decoded, DecodedFits, loadsIn, answerIn, roundsIn}
+use Rattle.answering.specs.Slices.{Decoded, DecodedFits, loadsIn, answerIn, roundsIn, groupEnd, GroupBefore, GroupFound}
+use Rattle.answering.proofs.GroupLaws.{own-inside, end-within, loads-around, costs-high, group-first, group-next, found-loads, count-within, cost-inside}
 
-loads-less : (periods costs spreads : List ℕ) (n i : ℕ) → LoadsFit periods costs spreads n → i ≤ n → LoadsFit periods costs spreads i
-loads-less periods costs spreads n i f h =
-    record {
-      few = omega (arith, f .few);
-      periodsLong = omega (arith, f .periodsLong);
-      costsLong = omega (arith, f .costsLong);
-      spreadsLong = omega (arith, f .spreadsLong);
-      each = λ k l. f .each k (omega arith);
-    }
+-- the verdict with one answer more is that of the first late place
+with-answer : (late : Bool) (verdict : Verdict) (place : Place) →
+    pick late (pick (isSchedulable verdict) (Late place) verdict) verdict ≡ pick (isSchedulable verdict) (pick late (Late place) Schedulable) verdict
+with-answer true verdict place = refl
+with-answer false (Refused refusal) place = refl
+with-answer false Schedulable place = refl
+with-answer false (Late first) place = refl
 
--- before task i is answered: `urgent` is one cost of every task before it
-pub record Answering (d : Decoded) (n i : ℕ) (verdict : Verdict) (urgent : ℕ) : Type 0 where
+-- before task i is answered: the last group that was looked for, and `reached`, one cost of every task before i
+pub record Answering (d : Decoded) (n i end sum reached : ℕ) (verdict : Verdict) : Type 0 where
   pub fits : DecodedFits d n
   pub within : i ≤ n
-  pub result : verdict ≡ resultOf (answerIn d) i
-  pub summed : urgent ≡ sumOf costOf (loadsIn d i)
-  pub high : urgent ≤ i * 1000000
+  pub result : verdict ≡ resultOf (answerIn d n) i
+  pub summed : reached ≡ total (wordOf (d .costs)) i
+  pub group : GroupBefore (d .priorities) (d .costs) n i end sum
 
 module _ (d : Decoded) (n : ℕ) where
-  pub answering-none : DecodedFits d n → Answering d n 0 Schedulable 0
+  pub answering-none : DecodedFits d n → Answering d n 0 0 0 0 Schedulable
+  unfolding total
   answering-none f =
       record {
         fits = f;
         within = omega arith;
-        result = sym (first-laws.first-none isSchedulable Schedulable refl (lateAt (answerIn d)));
-        summed = sym (costs-none (d .periods) (d .costs) (d .spreads));
-        high = omega arith;
+        result = sym (first-none isSchedulable Schedulable refl (lateAt (answerIn d n)));
+        summed = refl;
+        group = group-first (d .priorities) (d .costs) n;
       }
 
-  -- one cost more fits a word
-  pub urgent-fits : (i : ℕ) (verdict : Verdict) (urgent : ℕ) → Answering d n i verdict urgent → i < n →
-      urgent + getD (d .costs) i 0 ≤ (i + 1) * 1000000
-  urgent-fits i verdict urgent a h = omega (arith, a .high, a .fits .loadsFit .each i h)
+  -- one cost more, and it fits a word
+  pub reached-more : (i end sum reached : ℕ) (verdict : Verdict) → Answering d n i end sum reached verdict →
+      reached + getD (d .costs) i 0 ≡ total (wordOf (d .costs)) (i + 1)
+  unfolding total
+  reached-more i end sum reached verdict a = rw add-one (omega (arith, a .summed))
+
+  pub reached-fits : (i end sum reached : ℕ) (verdict : Verdict) → Answering d n i end sum reached verdict → i < n →
+      reached + getD (d .costs) i 0 ≤ 200000000
+  reached-fits i end sum reached verdict a h =
+      omega (
+        arith,
+        reached-more i end sum reached verdict a,
+        costs-high (d .priorities) (d .costs) n (a .fits .ranked) (i + 1) (omega arith),
+      )
 
   module _ (i held : ℕ) (f : DecodedFits d n) (h : i < n)
       (is : held ≡ largestTo (sectionAt (d .owners) (d .tops) (d .longest) (getD (d .priorities) i 0)) (d .rows)) where
@@ -75,63 +88,101 @@ module _ (d : Decoded) (n : ℕ) where
     pub base-fits : getD (d .costs) i 0 + held ≤ 2000000
     base-fits = omega (arith, held-high, f .loadsFit .each i h)
 
-    pub loads-fit : LoadsFit (d .periods) (d .costs) (d .spreads) i
-    loads-fit = loads-less (d .periods) (d .costs) (d .spreads) n i (f .loadsFit) (omega arith)
+  -- the group of the task, as it was found
+  module _ (i : ℕ) (f : DecodedFits d n) (h : i < n) (beforeEnd beforeSum count all end sum : ℕ)
+      (found : GroupFound (d .priorities) (d .costs) n i beforeEnd beforeSum count all end sum) where
+    -- what the solver is lent are the loads
+    loads-are : loads (d .periods) (d .costs) (d .spreads) i count ≡ loadsIn d n i
+    loads-are =
+        found-loads (d .priorities) (d .costs) n (f .ranked) i beforeEnd beforeSum count all end sum h found (loadAt (d .periods) (d .costs) (d .spreads))
 
-    module _ (verdict : Verdict) (urgent : ℕ) (a : Answering d n i verdict urgent) where
+    -- one cost of each
+    others-are : all - getD (d .costs) i 0 ≡ sumOf costOf (loadsIn d n i)
+    others-are =
+        omega (
+          arith,
+          found .allIs,
+          ap (sumOf costOf) (loads-around (d .priorities) (d .costs) n (f .ranked) i (loadAt (d .periods) (d .costs) (d .spreads))),
+          costs-others (d .periods) (d .costs) (d .spreads) i (groupEnd (d .priorities) n i) (own-inside (d .priorities) (d .costs) n (f .ranked) i h),
+        )
+
+    pub own-cost : getD (d .costs) i 0 ≤ all
+    own-cost = cost-inside (d .priorities) (d .costs) n (f .ranked) i beforeEnd beforeSum count all end sum h found
+
+    all-high : all ≤ 200000000
+    all-high =
+        omega (
+          arith,
+          found .allIs,
+          costs-high (d .priorities) (d .costs) n (f .ranked) (groupEnd (d .priorities) n i) (end-within (d .priorities) (d .costs) n (f .ranked) i),
+        )
+
+    pub loads-fit : LoadsFit (d .periods) (d .costs) (d .spreads) count
+    loads-fit =
+        loads-less (f .loadsFit) (count-within (d .priorities) (d .costs) n (f .ranked) i beforeEnd beforeSum count all end sum h found)
+
+    module _ (held : ℕ) (is : held ≡ largestTo (sectionAt (d .owners) (d .tops) (d .longest) (getD (d .priorities) i 0)) (d .rows)) where
       -- the first term fits a word
-      pub first-fits : getD (d .costs) i 0 + held + urgent ≤ 1000000000
-      first-fits = omega (arith, base-fits, a .high, f .loadsFit .few)
+      pub first-fits : getD (d .costs) i 0 + held + (all - getD (d .costs) i 0) ≤ 1000000000
+      first-fits = omega (arith, base-fits i held f h is, all-high)
 
-      module _ (start : Start) (first : ℕ) (firstIs : first ≡ firstTerm start (getD (d .costs) i 0 + held) urgent) where
+      module _ (start : Start) (first : ℕ) (firstIs : first ≡ firstTerm start (getD (d .costs) i 0 + held) (all - getD (d .costs) i 0)) where
         -- the sum of costs is that of the definition
-        first-is : first ≡ startFrom start (getD (d .costs) i 0 + held) (loadsIn d i)
-        first-is = rw (a .summed) at firstIs
+        first-is : first ≡ startFrom start (getD (d .costs) i 0 + held) (loadsIn d n i)
+        first-is =
+            rw others-are at firstIs
 
-        first-high : (s : Start) → firstTerm s (getD (d .costs) i 0 + held) urgent ≤ 1000000000
+        first-high : (s : Start) → firstTerm s (getD (d .costs) i 0 + held) (all - getD (d .costs) i 0) ≤ 1000000000
         first-high EveryCost = first-fits
-        first-high OwnCost = omega (arith, base-fits)
+        first-high OwnCost = omega (arith, base-fits i held f h is)
 
         -- the sequence may start at either: every solution is at least that
-        pub solvable : Solvable (getD (d .costs) i 0 + held) (loadsIn d i) first (getD (d .latest) i 0) (getD (d .deadlines) i 0)
+        pub solvable : Solvable (getD (d .costs) i 0 + held) (loads (d .periods) (d .costs) (d .spreads) i count) first (getD (d .latest) i 0) (getD (d .deadlines) i 0)
         solvable =
             let base = getD (d .costs) i 0 + held in
-            record {
+            rw loads-are
+            (record {
               basePositive = omega (arith, f .costLow i h);
               notAbove =
-                  subst (NotAbove base (loadsIn d i)) (sym first-is)
-                  (bothStarts .notAbove start base (loadsIn d i)
-                  (periods-low (loadAt (d .periods) (d .costs) (d .spreads)) i (λ k l. f .loadsFit .each k (omega arith) .periodLow)));
+                  subst (NotAbove base (loadsIn d n i)) (sym first-is)
+                  (bothStarts .notAbove start base (loadsIn d n i)
+                  (periods-low (interferes (wordOf (d .priorities)) i) (loadAt (d .periods) (d .costs) (d .spreads)) n
+                  (λ k l. f .loadsFit .each k l .periodLow)));
               startHigh = omega (arith, firstIs, first-high start);
               lateHigh = f .latestHigh i h;
               deadlineHigh = f .deadlineHigh i h;
-            }
+            })
 
-        module _ (response spent : ℕ)
-            (solved : SolvedBy (getD (d .costs) i 0 + held) (loadsIn d i) first (getD (d .latest) i 0) (getD (d .deadlines) i 0) response spent) where
-          pub response-is : response ≡ answerIn d i
+        module _ (late : Bool) (response spent : ℕ)
+            (solved : SolvedBy (getD (d .costs) i 0 + held) (loads (d .periods) (d .costs) (d .spreads) i count) first (getD (d .latest) i 0) (getD (d .deadlines) i 0) late response spent) where
+          pub response-is : response ≡ answerIn d n i
           unfolding answerIn
-          response-is = rw is at (solved .response)
+          response-is = rw (is, loads-are) at (solved .response)
 
-          pub rounds-are : spent ≡ roundsIn start d i
+          pub rounds-are : spent ≡ roundsIn start d n i
           unfolding roundsIn
-          rounds-are = rw is at (rw first-is at (solved .rounds))
+          rounds-are = rw (is, loads-are) at (rw first-is at (solved .rounds))
 
-  pub answering-more : (i : ℕ) (verdict next : Verdict) (urgent response : ℕ) → Answering d n i verdict urgent → i < n →
-      response ≡ answerIn d i → next ≡ pick (isSchedulable verdict) (lateIf response (at i)) verdict →
-      Answering d n (i + 1) next (urgent + getD (d .costs) i 0)
-  unfolding firstOf
-  answering-more i verdict next urgent response a h e step =
-      record {
-        fits = a .fits;
-        within = omega arith;
-        result = rw add-one (step ∙ rw (e, a .result));
-        summed = omega (arith, a .summed, costs-more (d .periods) (d .costs) (d .spreads) i);
-        high = urgent-fits i verdict urgent a h;
-      }
+    pub answering-more : (reached : ℕ) (verdict next : Verdict) (late : Bool) (response : ℕ) → Answering d n i beforeEnd beforeSum reached verdict →
+        response ≡ answerIn d n i → late ≡ eqb response 0 → next ≡ pick late (pick (isSchedulable verdict) (Late (at i)) verdict) verdict →
+        Answering d n (i + 1) end sum (reached + getD (d .costs) i 0) next
+    unfolding firstOf
+    answering-more reached verdict next late response a e lateIs step =
+        record {
+          fits = f;
+          within = omega arith;
+          result =
+              rw add-one
+              (step
+              ∙ with-answer late verdict (at i)
+              ∙ ap (λ (b : Bool). pick (isSchedulable verdict) (pick b (Late (at i)) Schedulable) verdict) (lateIs ∙ ap (λ (x : ℕ). eqb x 0) e)
+              ∙ ap (λ (v : Verdict). pick (isSchedulable v) (lateIf (answerIn d n i) (at i)) v) (a .result));
+          summed = reached-more i beforeEnd beforeSum reached verdict a;
+          group = group-next (d .priorities) (d .costs) n (f .ranked) i beforeEnd beforeSum count all end sum h found (a .group);
+        }
 
-  pub answering-all : (i : ℕ) (verdict : Verdict) (urgent : ℕ) → Answering d n i verdict urgent → n ≤ i →
-      (n ≡ i) × (verdict ≡ resultOf (answerIn d) n)
-  answering-all i verdict urgent a h =
+  pub answering-all : (i end sum reached : ℕ) (verdict : Verdict) → Answering d n i end sum reached verdict → n ≤ i →
+      (n ≡ i) × (verdict ≡ resultOf (answerIn d n) n)
+  answering-all i end sum reached verdict a h =
       let all : n ≡ i = omega (arith, a .within) in
-      (all, rw all (a .result))
+      (all, subst (λ (k : ℕ). verdict ≡ resultOf (answerIn d n) k) (sym all) (a .result))

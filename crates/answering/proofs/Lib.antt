@@ -1,1 +1,2 @@
+pub mod GroupLaws
 pub mod AnsweringLaws

@@ -1,10 +1,12 @@
 // The answers of a decoded table, task by task. It knows no bytes.
 ghost use mathlib.Core.Path.{_≡_};
-ghost use Prim.Native.Nat.{_≤_};
+ghost use Prim.Native.Nat.{_+_, _≤_, _<_};
 ghost use lib.ListN.{length};
 ghost use Rattle.model.specs.Choice.{pick};
-ghost use Rattle.answering.specs.Results.{isSchedulable, lateIf};
-ghost use Rattle.answering.specs.Slices.{decoded, DecodedFits, slice, Answered};
+ghost use Rattle.model.specs.Lists.{total, wordOf};
+ghost use Rattle.answering.specs.declared.Verdict.the-variants.{Late};
+ghost use Rattle.answering.specs.Results.{isSchedulable};
+ghost use Rattle.answering.specs.Slices.{decoded, DecodedFits, Ranked, GroupBefore, GroupFound, slice, Answered};
 use blocking::blocking;
 use equation::Start;
 use equation::first_term;
@@ -22,23 +24,85 @@ pub enum Verdict {
 }
 
 // The verdict with one answer more: the first late place stays.
-fn with_answer(verdict: Verdict, answer: Ticks, at: Place) -> Verdict
-    ensures { λ r. ⌜ r ≡ pick (isSchedulable verdict) (lateIf (answer .0) at) verdict ⌝ }
+fn with_answer(verdict: Verdict, late: bool, at: Place) -> Verdict
+    ensures { λ r. ⌜ r ≡ pick late (pick (isSchedulable verdict) (Late at) verdict) verdict ⌝ }
 {
+    if !late {
+        return verdict;
+    }
     match verdict {
         Verdict::Refused(refusal) => Verdict::Refused(refusal),
-        Verdict::Schedulable => {
-            if answer.0 == 0 {
-                Verdict::Late(at)
-            } else {
-                Verdict::Schedulable
-            }
-        }
+        Verdict::Schedulable => Verdict::Late(at),
         Verdict::Late(first) => Verdict::Late(first),
     }
 }
 
-// Answers and rounds of the n tasks, each from its own first term on. The costs of the more urgent tasks are summed along the way.
+// What is known of the tasks that share a task's priority, its group.
+struct Group {
+    // the task's loads are those of so many places, without its own
+    count: usize,
+    // one cost of every task up to the end of its group, its own with them
+    all: Ticks,
+    // where the last group ends that was looked for, and one cost of every task before that end
+    end: usize,
+    costs: Ticks,
+}
+
+// The group of the task at place i. `reached` is one cost of every task up to it, `before` what is known from the task before. No place is
+// looked at twice for an end.
+fn group_of(
+    priorities: &[u8],
+    costs: &[u32],
+    n: usize,
+    before: Group,
+    reached: Ticks,
+    i: usize,
+) -> Group
+    requires { ⌜ Ranked (now priorities) (now costs) n × (i < n) ⌝ }
+    requires { ⌜ GroupBefore (now priorities) (now costs) n i (before .end) (before .costs .0) × (reached .0 ≡ total (wordOf (now costs)) (i + 1)) ⌝ }
+    ensures { λ r. ⌜ GroupFound (now (priorities .entry)) (now (costs .entry)) n i (before .end) (before .costs .0) (r .count) (r .all .0) (r .end) (r .costs .0) ⌝ }
+{
+    let own = priorities[i];
+    // where the next priority is another, the group ends here. (The byte behind the last one may be anything: where it is the same, the end
+    // is looked for.)
+    if priorities[i + 1] != own {
+        return Group {
+            count: i,
+            all: reached,
+            end: before.end,
+            costs: Ticks(before.costs.0),
+        };
+    }
+    let known = before.end;
+    let mut sum = before.costs.0;
+    if i < known {
+        return Group {
+            count: known,
+            all: Ticks(sum),
+            end: known,
+            costs: Ticks(sum),
+        };
+    }
+    for k in known..n {
+        if priorities[k] < own {
+            return Group {
+                count: k,
+                all: Ticks(sum),
+                end: k,
+                costs: Ticks(sum),
+            };
+        }
+        sum += costs[k];
+    }
+    Group {
+        count: n,
+        all: Ticks(sum),
+        end: n,
+        costs: Ticks(sum),
+    }
+}
+
+// Answers and rounds of the n tasks, each from its own first term on. Groups and their costs are found along the way.
 pub fn answer_all(
     start: Start,
     priorities: &[u8],
@@ -59,10 +123,19 @@ pub fn answer_all(
     requires { ⌜ (n ≤ length (now answers)) × (n ≤ length (now rounds)) ⌝ }
     ensures { λ r. ⌜ Answered start (decoded (now (priorities .entry)) (now (periods .entry)) (now (costs .entry)) (now (deadlines .entry)) (now (spreads .entry)) (now (latest .entry)) (now (owners .entry)) (now (tops .entry)) (now (longest .entry)) m) n r (slice (now (answers .entry)) (now (answers .exit))) (slice (now (rounds .entry)) (now (rounds .exit))) ⌝ }
 {
+    let mut group = Group {
+        count: 0,
+        all: Ticks(0),
+        end: 0,
+        costs: Ticks(0),
+    };
+    let mut reached = Ticks(0);
     let mut verdict = Verdict::Schedulable;
-    let mut urgent = Ticks(0);
     for i in 0..n {
         let cost = Ticks(costs[i]);
+        reached = Ticks(reached.0 + cost.0);
+        group = group_of(priorities, costs, n, group, reached, i);
+        let others = Ticks(group.all.0 - cost.0);
         let held = blocking(owners, tops, longest, m, Priority(priorities[i]));
         let base = Ticks(cost.0 + held.0);
         let solved = solve(
@@ -70,15 +143,15 @@ pub fn answer_all(
             costs,
             spreads,
             i,
+            group.count,
             base,
-            first_term(start, base, urgent),
+            first_term(start, base, others),
             Ticks(latest[i]),
             Ticks(deadlines[i]),
         );
         answers[i] = solved.response.0;
         rounds[i] = solved.rounds;
-        verdict = with_answer(verdict, solved.response, Place(i));
-        urgent = Ticks(urgent.0 + cost.0);
+        verdict = with_answer(verdict, solved.late, Place(i));
     }
     verdict
 }

@@ -1,4 +1,5 @@
--- Blocking by priority ceiling (SPECIFICATION 4.1; document 01, "The equation").
+-- Blocking by priority ceiling (SPECIFICATION 4.1; document 01, "The equation"). "Blocking still comes from strictly lower tasks."
+-- (document 02, L6): "less urgent" is of a smaller priority, and tasks of one priority do not block each other.
 -- Assumes nothing.
 use Prim.Native.Nat.{ℕ}
 use mathlib.Core.Bool.{Bool}

@@ -18,7 +18,8 @@ use Rattle.encoding.specs.Bytes.{headBytes, recordBytes, rowBytes, joine
 use Rattle.encoding.specs.Statements.{noRow, rowOf, Fits, AreBytes, Encoded}
 use Rattle.encoding.proofs.JoinLaws.{Stands, stands-from, stands-whole, whole-is, stands-first, stands-second, stands-both, length-joined, stands-each, stands-all}
 use Rattle.encoding.proofs.PieceLaws.{Small, record-read, row-read, record-stands, row-stands}
-use Rattle.encoding.proofs.RuleLaws.{list-is, fields-same, sections-same}
+use Rattle.encoding.proofs.RuleLaws.{fields-same, sections-same}
+use Rattle.model.proofs.Append.{list-is}
 use Rattle.encoding.proofs.ByteLaws.{are-none, are-more, are-both, are-joined, are-record, are-row}
 
 -- a record is as long as its version says

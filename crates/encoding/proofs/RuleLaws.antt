@@ -2,23 +2,10 @@
 -- Assumes nothing.
 use Prim.Native.Nat.{ℕ, _<_}
 use native.Mathlib.Omega.{arith}
-use mathlib.Core.Path.{_≡_, _∙_}
-use mathlib.Core.List.{List}
-use lib.ListN.{length, getD}
-use lib.Seq.{ext-getD}
-use Rattle.model.specs.Lists.{tabulate}
+use mathlib.Core.Path.{_≡_}
 use Rattle.model.specs.Tables.{Task, Row}
-use Rattle.model.proofs.Lists.{length-tabulate, getD-tabulate}
 use Rattle.tables.specs.Fields.{RecordField, periodField, costField, deadlineField, earliestField, latestField, priorityField, RowField, placeField, semaphoreField, longestField, orderField}
 use Rattle.tables.specs.Meaning.{TaskFieldRight, SectionFieldRight}
-
--- a list is what it holds at its places
-pub list-is : {A : Type 0} (f : ℕ → A) (xs : List A) (d : A) → ((i : ℕ) → i < length xs → f i ≡ getD xs i d) → tabulate f (length xs) ≡ xs
-list-is f xs d each =
-    ext-getD d (tabulate f (length xs)) xs (length-tabulate f (length xs))
-    (λ i h.
-    let inside : i < length xs = omega (arith, length-tabulate f (length xs)) in
-    getD-tabulate f (length xs) i d inside ∙ each i inside)
 
 module _ (n : ℕ) (task other : ℕ → Task) (same : (i : ℕ) → i < n → task i ≡ other i) where
   pub fields-same : (span i : ℕ) → i < n → (field : RecordField) → TaskFieldRight span task i field → TaskFieldRight span other i field
@@ -30,7 +17,7 @@ module _ (n : ℕ) (task other : ℕ → Task) (same : (i : ℕ) → i < n → t
   fields-same span i h priorityField r =
       record {
         positive = rw (same i h) at (r .positive);
-        falls = λ before e. rw (same i h, same before (omega arith)) at (r .falls before e);
+        notRising = λ before e. rw (same i h, same before (omega arith)) at (r .notRising before e);
       }
 
   module _ (m : ℕ) (row another : ℕ → Row) (alike : (k : ℕ) → k < m → row k ≡ another k) where

@@ -39,7 +39,7 @@ module _ (n : ℕ) where
   task-right i h deadlineField = record { low = omega arith; high = omega arith }
   task-right i h earliestField = record { low = omega arith; high = omega arith }
   task-right i h latestField = record { low = omega arith; high = omega arith }
-  task-right i h priorityField = record { positive = omega arith; falls = λ before e. omega arith }
+  task-right i h priorityField = record { positive = omega arith; notRising = λ before e. omega arith }
 
   row-right : (m k : ℕ) → k < m → m ≤ 16 * n → (field : RowField) → SectionFieldRight n shapeTask shapeRow k field
   row-right m k h most placeField = omega arith

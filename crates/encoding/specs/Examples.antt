@@ -46,6 +46,15 @@ delays =
     ∷ 1 ∷ 0 ∷ 0 ∷ 3 ∷ 232 ∷ 0 ∷ 0 ∷ 0 ∷ 15 ∷ 0 ∷ 0 ∷ 0 ∷ 25 ∷ 0 ∷ 0 ∷ 0 ∷ 0 ∷ 0 ∷ 0 ∷ 0 ∷ 0
     ∷ []
 
+-- examples/groups.table: the fifth table with one priority for its last two tasks (document 02, L6)
+abbrev pub groups : List ℕ
+groups =
+    1 ∷ 0 ∷ 56 ∷ 3 ∷ 0
+    ∷ 2 ∷ 0 ∷ 0 ∷ 0 ∷ 4 ∷ 0 ∷ 0 ∷ 0 ∷ 1 ∷ 0 ∷ 0 ∷ 0 ∷ 4 ∷ 0 ∷ 0 ∷ 0 ∷ 0
+    ∷ 1 ∷ 0 ∷ 0 ∷ 0 ∷ 6 ∷ 0 ∷ 0 ∷ 0 ∷ 2 ∷ 0 ∷ 0 ∷ 0 ∷ 6 ∷ 0 ∷ 0 ∷ 0 ∷ 0
+    ∷ 1 ∷ 0 ∷ 0 ∷ 0 ∷ 10 ∷ 0 ∷ 0 ∷ 0 ∷ 3 ∷ 0 ∷ 0 ∷ 0 ∷ 10 ∷ 0 ∷ 0 ∷ 0 ∷ 0
+    ∷ []
+
 -- examples/refused.table: the fifth table with a deadline above its period, so that it is encoded and not accepted
 abbrev pub refused : List ℕ
 refused =
@@ -79,6 +88,7 @@ examples =
     ∷ example 1 (task 4 10 2 5 0 0 ∷ task 3 20 3 12 0 0 ∷ task 2 40 10 40 0 0 ∷ task 1 100 4 50 0 0 ∷ [])
     (row 1 1 1 ∷ row 1 2 1 ∷ row 2 2 5 ∷ row 3 1 2 ∷ []) sections
     ∷ example 2 (task 2 30 10 20 10 10 ∷ task 1 1000 15 25 0 0 ∷ []) [] delays
+    ∷ example 1 (task 2 4 1 4 0 0 ∷ task 1 6 2 6 0 0 ∷ task 1 10 3 10 0 0 ∷ []) [] groups
     ∷ example 1 (task 3 4 1 4 0 0 ∷ task 2 6 2 7 0 0 ∷ task 1 10 3 10 0 0 ∷ []) [] refused
     ∷ []
 

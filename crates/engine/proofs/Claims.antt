@@ -1,18 +1,21 @@
 -- What is claimed of the engine for the bytes of any table: its refusals, its ticks, and the equation's answers.
 -- Assumes nothing.
-use Prim.Native.Nat.{ℕ, _≤_, _<_}
+use Prim.Native.Nat.{ℕ, zero, suc, _-_, _≤_, _<_}
 use native.Mathlib.Omega.{arith}
 use mathlib.Core.Path.{_≡_, refl, sym, _∙_, ap}
-use mathlib.Core.Bool.{true}
+use mathlib.Core.Bool.{true, false}
 use mathlib.Core.Logic.{inl, inr}
 use mathlib.Core.List.{List}
 use lib.Dec.{eqb, leb, ltb}
 use lib.ListN.{length}
-use borrow.Author.Tests.{eqb-true, eq-eqb, le-leb}
+use borrow.Author.Tests.{eqb-true, eq-eqb, ne-eqb, le-leb, not-true}
 use Rattle.model.specs.Choice.{both, on}
 use Rattle.model.specs.Lists.{largestTo, wordOf}
-use Rattle.model.specs.Tables.{Task}
-use Rattle.model.proofs.Tests.{bool?, ltb?, clash, both-true, both-pass}
+use Rattle.model.specs.Search.{any}
+use Rattle.model.specs.Tables.{Task, Falling}
+use Rattle.model.proofs.Any.{any-none}
+use Rattle.model.proofs.Loads.{falling-alone}
+use Rattle.model.proofs.Tests.{bool?, ltb?, clash, both-true, both-pass, both-fail}
 use Rattle.model.proofs.Lists.{largest-low, largest-high}
 use Rattle.model.proofs.Filling.{filled-same, filled-word}
 use Rattle.model.proofs.First.{first-same}
@@ -20,12 +23,12 @@ use Rattle.tables.specs.declared.Refusal.{Refusal}
 use Rattle.tables.specs.declared.Refusal.the-variants.{NotPlayable}
 use Rattle.tables.specs.declared.Check.{Check}
 use Rattle.tables.specs.declared.Check.the-variants as check
-use Rattle.tables.specs.Fields.{taskCountField, latestField}
-use Rattle.tables.specs.Layout.{taskCount, rowCount, tasksOf, tableOf, latestIn}
+use Rattle.tables.specs.Fields.{taskCountField, latestField, priorityField}
+use Rattle.tables.specs.Layout.{taskCount, rowCount, tasksOf, tableOf, priorityIn, latestIn}
 use Rattle.tables.specs.Refusals.{at, isClean}
 use Rattle.tables.specs.Checks.{roomCheck, tableCheck, tableCheckSpanning}
 use Rattle.tables.specs.Meaning.{TableRight, RoomFor}
-use Rattle.tables.proofs.LayoutLaws.{layout-sound, task-is, tasks-count}
+use Rattle.tables.proofs.LayoutLaws.{layout-sound, task-is, priority-at, tasks-count}
 use Rattle.tables.proofs.CheckLaws.{table-deserved, table-gives, table-right, table-clean}
 use Rattle.machine.specs.Machine.{after, bitOf}
 use Rattle.machine.proofs.SameLaws.{Same}
@@ -42,29 +45,67 @@ use Rattle.response.proofs.PlaceLaws.{result-place}
 use Rattle.response.proofs.TableLaws.{tasks-fit}
 use Rattle.response.proofs.Demands.{refused-by, result-cases, answers-kept, verdict-given, plain-answer, answers-filled, result-is}
 use Rattle.engine.specs.Run.{engineAfter, engineAnswer, AsInRun}
-use Rattle.engine.specs.Outcome.{isPlain, playCheck, playVerdict, playWords}
+use Rattle.engine.specs.Outcome.{tiedAt, isPlain, playCheck, playVerdict, playWords}
 use Rattle.engine.specs.Statements.{Plain, PlayDeserved, PlayRefusals, TableEveryTick, CodeEveryTick, PlaysEquation, PlaysAsAnalysis, NoSecondPlay}
 use Rattle.engine.proofs.RunLaws.{everyTick, playedIsAnswer}
-use Rattle.engine.proofs.PlayedLaws.{table-decides, not-plain, plain-clean, right, same-state}
+use Rattle.engine.proofs.PlayedLaws.{table-decides, not-plain, plain-clean, right, same-state, tie-found}
+
+-- where no task has the priority of the one before it, priorities strictly fall
+module _ (bytes : List ℕ) (right : TableRight bytes) where
+  falling-from : ((i : ℕ) → suc i < taskCount bytes → ¬ (priorityIn bytes (suc i) ≡ priorityIn bytes i)) → Falling (tasksOf bytes)
+  falling-from differs i h =
+      let next : suc i < taskCount bytes = omega (arith, tasks-count bytes) in
+      omega (
+        arith,
+        differs i next,
+        right .records (suc i) next priorityField .notRising i refl,
+        priority-at bytes i (omega arith),
+        priority-at bytes (suc i) next,
+      )
+
+  -- so it has no tie at all
+  untied : any (tiedAt (priorityIn bytes)) (taskCount bytes) ≡ false → (i k : ℕ) → i < taskCount bytes → k < taskCount bytes →
+      priorityIn bytes i ≡ priorityIn bytes k → i ≡ k
+  untied none i k h l e =
+      falling-alone (tasksOf bytes) (falling-from (λ j next same.
+      let back : j ≡ suc j - 1 = omega arith in
+      clash (any (tiedAt (priorityIn bytes)) (taskCount bytes))
+      (tie-found (priorityIn bytes) (suc j) (taskCount bytes) (omega arith) next (same ∙ ap (priorityIn bytes) back)) none))
+      k (omega (arith, tasks-count bytes)) i (omega (arith, tasks-count bytes))
+      (omega (arith, priority-at bytes i h, priority-at bytes k l, e))
+
+  pub plain-falling : Plain bytes → Falling (tasksOf bytes)
+  plain-falling plain = falling-from (λ i next same. omega (arith, plain .noTie (suc i) i next (omega arith) same))
 
 -- the test for a plain table passes exactly where the table is plain
 module _ (bytes : List ℕ) where
   plain-means : TableRight bytes → isPlain bytes ≡ true → Plain bytes
   plain-means right p =
-      let b = both-true (eqb (rowCount bytes) 0) _ p in
-      let none = eqb-true (largestTo (latestIn bytes) (taskCount bytes)) 0 (b .1) in
+      let a = both-true (eqb (rowCount bytes) 0) _ p in
+      let b = both-true (eqb (largestTo (latestIn bytes) (taskCount bytes)) 0) _ (a .1) in
+      let none = eqb-true (largestTo (latestIn bytes) (taskCount bytes)) 0 (b .0) in
       let noLatest : (i : ℕ) → i < taskCount bytes → latestIn bytes i ≡ 0 =
       λ i h. omega (arith, none, largest-low (latestIn bytes) (taskCount bytes) i h) in
       record {
-        noRow = eqb-true (rowCount bytes) 0 (b .0);
+        noRow = eqb-true (rowCount bytes) 0 (a .0);
         noEarliest = λ i h. omega (arith, noLatest i h, right .records i h latestField .low);
         noLatest = noLatest;
+        noTie = untied bytes right (not-true (any (tiedAt (priorityIn bytes)) (taskCount bytes)) (b .1));
       }
 
   plain-holds : Plain bytes → isPlain bytes ≡ true
   plain-holds plain =
       let none = largest-high (latestIn bytes) (taskCount bytes) 0 (λ i h. omega (arith, plain .noLatest i h)) in
-      both-pass (eq-eqb (rowCount bytes) 0 (plain .noRow)) (eq-eqb (largestTo (latestIn bytes) (taskCount bytes)) 0 (omega (arith, none)))
+      both-pass (eq-eqb (rowCount bytes) 0 (plain .noRow))
+      (both-pass (eq-eqb (largestTo (latestIn bytes) (taskCount bytes)) 0 (omega (arith, none)))
+      (rw (any-none (tiedAt (priorityIn bytes)) (taskCount bytes) no-tie) refl))
+    where
+      no-tie : (i : ℕ) → i < taskCount bytes → tiedAt (priorityIn bytes) i ≡ false
+      no-tie zero h = refl
+      no-tie (suc i) h =
+          let back : suc i - 1 ≡ i = omega arith in
+          both-fail (ltb 0 (suc i)) (eqb (priorityIn bytes (suc i)) (priorityIn bytes (suc i - 1)))
+          (rw back (ne-eqb (priorityIn bytes (suc i)) (priorityIn bytes i) (λ same. omega (arith, plain .noTie (suc i) i h (omega arith) same))))
 
 module _ (bytes : List ℕ) (room : ℕ) where
   -- a clean check does not refuse
@@ -163,10 +204,10 @@ few bytes right =
     omega (arith, tasks-count bytes, right .head .counts taskCountField .high, layout-sound bytes (right .head .version) .few)
 
 pub tableEveryTick : TableEveryTick
-tableEveryTick bytes right = everyTick (tasksOf bytes) (tasks-fit bytes (right .records)) (few bytes right)
+tableEveryTick bytes right falling = everyTick (tasksOf bytes) (tasks-fit bytes (right .records)) falling (few bytes right)
 
 pub codeEveryTick : CodeEveryTick
-codeEveryTick bytes periods costs deadlines latest held limit left due leftNow dueNow t ready next leaves ticks s law h =
+codeEveryTick bytes periods costs deadlines latest held falling limit left due leftNow dueNow t ready next leaves ticks s law h =
     record {
       work = λ p isTask.
           let inside : p < taskCount bytes = omega (arith, tasks-count bytes) in
@@ -179,7 +220,7 @@ codeEveryTick bytes periods costs deadlines latest held limit left due leftNow d
     same = same-state bytes periods costs deadlines latest held (taskCount bytes) refl t
 
     inRun : AsInRun (tasksOf bytes) ticks s t
-    inRun = tableEveryTick bytes (right bytes periods costs deadlines latest held) ticks s law t h
+    inRun = tableEveryTick bytes (right bytes periods costs deadlines latest held) falling ticks s law t h
 
     bit : (p : ℕ) →
         on (both (ltb p (length (tasksOf bytes))) (ltb 0 (engineAfter (tasksOf bytes) t .left p))) 1
@@ -196,7 +237,7 @@ module _ (bytes : List ℕ) (right : TableRight bytes) (plain : Plain bytes) whe
   -- so the engine's answers are the analysis's
   same-answer : (i : ℕ) → i < taskCount bytes → engineAnswer (tasksOf bytes) i ≡ answerOf (tableOf bytes) i
   same-answer i h =
-      playedIsAnswer (tasksOf bytes) (tasks-fit bytes (right .records)) calm (few bytes right) i (omega (arith, tasks-count bytes))
+      playedIsAnswer (tasksOf bytes) (tasks-fit bytes (right .records)) (plain-falling bytes right plain) calm (few bytes right) i (omega (arith, tasks-count bytes))
       ∙ sym (plain-answer bytes calm (plain .noRow) i h)
 
 pub playsEquation : PlaysEquation

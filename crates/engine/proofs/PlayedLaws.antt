@@ -1,28 +1,32 @@
 -- Which outcome each check of the play leads to, and what it asks of the columns.
 -- Assumes nothing.
-use Prim.Native.Nat.{ℕ, _+_, _≤_, _<_}
+use Prim.Native.Nat.{ℕ, _+_, _-_, _≤_, _<_}
 use native.Mathlib.Omega.{arith}
 use mathlib.Core.Path.{_≡_, refl, sym, _∙_, ap, subst}
 use mathlib.Core.Bool.{false, true}
 use mathlib.Core.List.{List}
-use lib.Dec.{eqb}
+use lib.Dec.{eqb, ltb}
 use lib.ListN.{length}
-use borrow.Author.Tests.{eq-eqb, ne-eqb, lt-leb}
+use native.Mathlib.Nat.{add-zero}
+use native.Mathlib.Numerals.{add-one}
+use borrow.Author.Tests.{eq-eqb, ne-eqb, lt-leb, lt-ltb}
 use Rattle.model.specs.Lists.{filled, largestTo, wordOf}
+use Rattle.model.specs.Search.{any}
+use Rattle.model.proofs.Any.{any-none, any-some}
 use Rattle.model.specs.Tables.{Task}
 use Rattle.model.proofs.Lists.{largest-same, largest-low, largest-high}
 use Rattle.model.proofs.Filling.{filled-same, filled-word}
-use Rattle.model.proofs.Tests.{both-fail, both-pass}
+use Rattle.model.proofs.Tests.{both-fail, both-pass, either-neither}
 use Rattle.model.proofs.First.{first-none, first-on, first-stop, first-same}
 use Rattle.tables.specs.declared.Refusal.{Refusal}
 use Rattle.tables.specs.declared.Refusal.the-variants.{NoRoom, NotPlayable}
 use Rattle.tables.specs.declared.Check.the-variants as check
 use Rattle.tables.specs.Fields.{taskCountField, periodField, costField, deadlineField}
-use Rattle.tables.specs.Layout.{taskCount, rowCount, tasksOf, latestIn}
+use Rattle.tables.specs.Layout.{layoutOf, recordStart, taskCount, rowCount, tasksOf, priorityIn, latestIn}
 use Rattle.tables.specs.Refusals.{at, firstIn, orElse, unless}
 use Rattle.tables.specs.Checks.{readCheck, tableCheck}
 use Rattle.tables.specs.Meaning.{TableRight}
-use Rattle.tables.proofs.LayoutLaws.{layout-sound, task-is, tasks-count}
+use Rattle.tables.proofs.LayoutLaws.{layout-sound, next-start, record-inside, start-small, task-is, tasks-count}
 use Rattle.tables.proofs.CheckLaws.{read-right}
 use Rattle.tables.proofs.OrderLaws.{read-clean, read-decides, room-decides, all-pass}
 use Rattle.machine.specs.Machine.{after, played, upTo}
@@ -33,7 +37,7 @@ use Rattle.answering.specs.declared.Verdict.the-variants as verdict
 use Rattle.answering.specs.Results.{isSchedulable, lateAt, resultOf}
 use Rattle.reading.specs.Columns.{RecordColumn, periodColumn, costColumn, deadlineColumn, latestColumn, RowColumn, TableHeld}
 use Rattle.engine.specs.Run.{engineAfter, engineAnswer, periodsOf, costsOf, deadlinesOf}
-use Rattle.engine.specs.Outcome.{Played, isPlain, playCheck, playVerdict, playWords}
+use Rattle.engine.specs.Outcome.{Played, tiedAt, isPlain, playCheck, playVerdict, playWords}
 use Rattle.engine.specs.Held.{NumbersHeld}
 
 module _ (bytes : List ℕ) (room : ℕ) where
@@ -163,19 +167,27 @@ module _ (bytes periods costs deadlines latest : List ℕ) (held : NumbersHeld b
         delay-refused some =
             refused bytes answers NotPlayable
             (not-plain bytes (length answers) clean
-            (both-fail (eqb (rowCount bytes) 0) (eqb (largestTo (latestIn bytes) (taskCount bytes)) 0)
-            (ne-eqb (largestTo (latestIn bytes) (taskCount bytes)) 0 (λ e. some (delay-is ∙ e)))))
+            (both-fail (eqb (rowCount bytes) 0) _ (rw (ne-eqb (largestTo (latestIn bytes) (taskCount bytes)) 0 (λ e. some (delay-is ∙ e))) refl)))
 
-        -- what has neither is played
-        pub all-played : rowCount bytes ≡ 0 → largestTo (wordOf latest) n ≡ 0 → (limit : ℕ) (left : List ℕ) (v : Verdict) →
+        pub tie-refused : any (tiedAt (priorityIn bytes)) n ≡ true → Played bytes answers (verdict.Refused NotPlayable) answers
+        tie-refused tied =
+            refused bytes answers NotPlayable
+            (not-plain bytes (length answers) clean
+            (both-fail (eqb (rowCount bytes) 0) _
+            (both-fail (eqb (largestTo (latestIn bytes) (taskCount bytes)) 0) _ (rw (ap (any (tiedAt (priorityIn bytes))) (sym counted) ∙ tied) refl))))
+
+        -- what has none of them is played
+        pub all-played : rowCount bytes ≡ 0 → largestTo (wordOf latest) n ≡ 0 → any (tiedAt (priorityIn bytes)) n ≡ false → (limit : ℕ) (left : List ℕ) (v : Verdict) →
             limit ≡ largestTo (wordOf deadlines) n →
             left ≡ filled (played (wordOf periods) (wordOf costs) n (upTo limit (wordOf deadlines))) n answers →
             v ≡ resultOf (wordOf left) n → Played bytes answers v left
         unfolding playVerdict playWords
-        all-played bare calm limit left v latestIs are result =
+        all-played bare calm untied limit left v latestIs are result =
             let accepted =
             plain-clean bytes (length answers) clean
-            (both-pass (eq-eqb (rowCount bytes) 0 bare) (eq-eqb (largestTo (latestIn bytes) (taskCount bytes)) 0 (sym delay-is ∙ calm))) in
+            (both-pass (eq-eqb (rowCount bytes) 0 bare)
+            (both-pass (eq-eqb (largestTo (latestIn bytes) (taskCount bytes)) 0 (sym delay-is ∙ calm))
+            (rw (ap (any (tiedAt (priorityIn bytes))) (sym counted) ∙ untied) refl))) in
             record {
               verdictIs =
                   rw accepted
@@ -210,3 +222,95 @@ module _ (answers : ℕ → ℕ) where
 
   pub result-all : (i n : ℕ) → resultOf answers i ≡ verdict.Schedulable → i ≤ n → n ≤ i → verdict.Schedulable ≡ resultOf answers n
   result-all i n e low high = sym e ∙ ap (resultOf answers) (omega arith)
+
+-- the search for a tie
+module _ (priority : ℕ → ℕ) where
+  -- the first task has none before it
+  pub tie-first : any (tiedAt priority) 1 ≡ false
+  tie-first = any-none (tiedAt priority) 1 (λ k h. let first : k ≡ 0 = omega arith in rw first refl)
+
+  pub tie-found : (i n : ℕ) → 1 ≤ i → i < n → priority i ≡ priority (i - 1) → any (tiedAt priority) n ≡ true
+  tie-found i n low h e = any-some (tiedAt priority) n i h (rw (lt-ltb 0 i low, eq-eqb (priority i) (priority (i - 1)) e) refl)
+
+  pub tie-on : (i : ℕ) → 1 ≤ i → any (tiedAt priority) i ≡ false → ¬ (priority i ≡ priority (i - 1)) → any (tiedAt priority) (i + 1) ≡ false
+  unfolding any
+  tie-on i low none differs =
+      rw add-one (either-neither (any (tiedAt priority) i) (tiedAt priority i) none
+      (both-fail (ltb 0 i) _ (ne-eqb (priority i) (priority (i - 1)) differs)))
+
+  pub tie-none : (i n : ℕ) → any (tiedAt priority) i ≡ false → i ≤ n → n ≤ i → false ≡ any (tiedAt priority) n
+  tie-none i n none low high = sym none ∙ ap (any (tiedAt priority)) (omega arith)
+
+-- before the priority of task i is looked at: none before it is that of the task before, and task i − 1 begins at `at`
+pub record Looking (bytes : List ℕ) (n i at size : ℕ) : Type 0 where
+  pub right : TableRight bytes
+  pub counted : n ≡ taskCount bytes
+  pub none : any (tiedAt (priorityIn bytes)) i ≡ false
+  pub low : 1 ≤ i
+  pub within : i ≤ n
+  pub here : at ≡ recordStart (layoutOf bytes) (i - 1)
+  pub sized : size ≡ layoutOf bytes .size
+
+pub looking-first : (bytes : List ℕ) (n size : ℕ) → TableRight bytes × (n ≡ taskCount bytes) → size ≡ layoutOf bytes .size → Looking bytes n 1 5 size
+looking-first bytes n size held e =
+    record {
+      right = held .0;
+      counted = held .1;
+      none = tie-first (priorityIn bytes);
+      low = omega arith;
+      within = omega (arith, held .0 .head .counts taskCountField .low, held .1);
+      here = omega arith;
+      sized = e;
+    }
+
+pub looking-none : {bytes : List ℕ} {n i at size : ℕ} → Looking bytes n i at size → n ≤ i → false ≡ any (tiedAt (priorityIn bytes)) n
+looking-none {bytes} {n} {i} l h = tie-none (priorityIn bytes) i n (l .none) (l .within) h
+
+module _ {bytes : List ℕ} {n i at size : ℕ} (l : Looking bytes n i at size) (h : i < n) where
+  next-is : at + size ≡ recordStart (layoutOf bytes) i
+  next-is =
+      let whole : i - 1 + 1 ≡ i = omega (arith, l .low) in
+      omega (arith, l .here, l .sized, next-start (layoutOf bytes) (i - 1), ap (recordStart (layoutOf bytes)) whole)
+
+  -- the next record begins within the table, and near its start
+  pub next-inside : at + size < length bytes
+  next-inside =
+      let inside : i < taskCount bytes = omega (arith, l .counted) in
+      omega (
+        arith,
+        next-is,
+        record-inside (layoutOf bytes) inside,
+        l .right .head .lengths .summed,
+        layout-sound bytes (l .right .head .version) .fields,
+      )
+
+  pub next-near : at + size ≤ 5360
+  next-near =
+      let sound = layout-sound bytes (l .right .head .version) in
+      omega (
+        arith,
+        next-is,
+        start-small (layoutOf bytes) sound {n = i} (omega (arith, l .counted, l .right .head .counts taskCountField .high, sound .few)),
+      )
+
+  -- what is read there are the two priorities
+  own : wordOf bytes (at + size) ≡ priorityIn bytes i
+  own = ap (wordOf bytes) (next-is ∙ sym (add-zero (recordStart (layoutOf bytes) i)))
+
+  before : wordOf bytes at ≡ priorityIn bytes (i - 1)
+  before = ap (wordOf bytes) (l .here ∙ sym (add-zero (recordStart (layoutOf bytes) (i - 1))))
+
+  pub looking-found : wordOf bytes (at + size) ≡ wordOf bytes at → any (tiedAt (priorityIn bytes)) n ≡ true
+  looking-found e = tie-found (priorityIn bytes) i n (l .low) h (sym own ∙ e ∙ before)
+
+  pub looking-more : ¬ (wordOf bytes (at + size) ≡ wordOf bytes at) → Looking bytes n (i + 1) (at + size) size
+  looking-more differs =
+      record {
+        right = l .right;
+        counted = l .counted;
+        none = tie-on (priorityIn bytes) i (l .low) (l .none) (λ e. differs (own ∙ e ∙ sym before));
+        low = omega arith;
+        within = omega arith;
+        here = let back : i + 1 - 1 ≡ i = omega arith in rw back next-is;
+        sized = l .sized;
+      }

@@ -13,7 +13,8 @@ use lib.ListN.{length}
 use borrow.Author.Tests.{eq-eqb, ne-eqb}
 use Rattle.model.specs.Choice.{on}
 use Rattle.model.specs.Search.{firstFrom}
-use Rattle.model.specs.Tables.{Task, taskOf, loadsOf}
+use Rattle.model.specs.Tables.{Task, taskOf, loadsOf, Falling}
+use Rattle.model.proofs.Loads.{falling-alone}
 use Rattle.model.proofs.Tests.{eqb?, clash}
 use Rattle.model.proofs.Search.{found, finds, none, missed}
 use Rattle.equation.specs.Rounding.{ceilDiv}
@@ -73,7 +74,7 @@ module _ (tasks : List Task) (fit : TasksFit tasks) where
       ap (λ (due : ℕ). on (eqb due t) (taskOf tasks p .cost)) (next-release t p isTask)
       ∙ begins t (taskOf tasks p .period) (taskOf tasks p .cost) (fit .periodLow p isTask)
 
-  module _ (few : length tasks ≤ 32) (ticks : ℕ) (s : Schedule) (law : LegalSchedule tasks ticks (synchronous tasks ticks) s) where
+  module _ (falling : Falling tasks) (few : length tasks ≤ 32) (ticks : ℕ) (s : Schedule) (law : LegalSchedule tasks ticks (synchronous tasks ticks) s) where
     abbrev jobs : List Job
     jobs = synchronous tasks ticks
 
@@ -93,7 +94,7 @@ module _ (tasks : List Task) (fit : TasksFit tasks) where
       -- it serves the place of the job that the schedule serves, or none
       serves-job : (j : ℕ) → s t ≡ serves j → engineServes tasks t ≡ jobOf jobs j .place
       serves-job j e =
-          let found = work-serves tasks fit ticks s law t j inRun e in
+          let found = work-serves tasks fit falling ticks s law t j inRun e in
           let place : ℕ = jobOf jobs j .place in
           next-is (periodsOf tasks) (costsOf tasks) (length tasks) few (fit .costLow) t place (found .0)
           (omega (arith, same-released place (found .0), found .1))
@@ -170,22 +171,22 @@ pub everyLimit : EveryLimit
 everyLimit = every-limit
 
 pub everyTick : EveryTick
-everyTick tasks fit few ticks s law t h =
-    let same = same-work tasks fit few ticks s law t h in
+everyTick tasks fit falling few ticks s law t h =
+    let same = same-work tasks fit falling few ticks s law t h in
     record {
       work = same;
       ready = ready-bits (periodsOf tasks) (costsOf tasks) (length tasks) few (fit .costLow) t;
-      served = λ j inRun. serves-job tasks fit few ticks s law t inRun same j;
-      none = λ inRun. serves-none tasks fit few ticks s law t inRun same;
+      served = λ j inRun. serves-job tasks fit falling few ticks s law t inRun same j;
+      none = λ inRun. serves-none tasks fit falling few ticks s law t inRun same;
     }
 
 pub firstJobDone : FirstJobDone
-firstJobDone tasks fit few ticks s law i j isTask first x low short h =
-    let same = everyTick tasks fit few ticks s law x h .work i isTask in
+firstJobDone tasks fit falling few ticks s law i j isTask first x low short h =
+    let same = everyTick tasks fit falling few ticks s law x h .work i isTask in
     let done = first-done tasks fit ticks s law i j x isTask first low (omega (arith, fit .deadlineHigh i isTask)) h in
     record { finished = λ e. done .0 (sym same ∙ e); noWork = λ finished. same ∙ done .1 finished }
 
-module _ (tasks : List Task) (fit : TasksFit tasks) (calm : NoDelay tasks) (few : length tasks ≤ 32) (i : ℕ) (isTask : i < length tasks) where
+module _ (tasks : List Task) (fit : TasksFit tasks) (falling : Falling tasks) (calm : NoDelay tasks) (few : length tasks ≤ 32) (i : ℕ) (isTask : i < length tasks) where
   -- its deadline, its answer, and the test that the engine searches by
   abbrev deadline : ℕ
   deadline = taskOf tasks i .deadline
@@ -203,8 +204,9 @@ module _ (tasks : List Task) (fit : TasksFit tasks) (calm : NoDelay tasks) (few 
       let first = first-job tasks fit deadline (fit .deadlineLow i isTask) i isTask in
       let law = scheduleExists tasks deadline (synchronous tasks deadline) in
       let s : Schedule = scheduleOf tasks (synchronous tasks deadline) in
-      let worst = synchronousIsWorst tasks fit calm deadline s law i (first .0) isTask (first .1) x short short in
-      let done = firstJobDone tasks fit few deadline s law i (first .0) isTask (first .1) x low short short in
+      let alone = falling-alone tasks falling i isTask in
+      let worst = synchronousIsWorst tasks fit calm deadline s law i (first .0) isTask alone (first .1) x short short in
+      let done = firstJobDone tasks fit falling few deadline s law i (first .0) isTask (first .1) x low short short in
       (λ some enough. done .noWork (worst .inTime some enough), λ e. worst .notBefore (done .finished e))
 
   -- the engine's test fails at each tick before the answer, and at each up to the deadline if the answer is 0

@@ -1,4 +1,5 @@
--- That the engine does what a run of document 01 does, at every tick (SPECIFICATION 9; document 02, L1), over any list of tasks.
+-- That the engine does what a run of document 01 does, at every tick (SPECIFICATION 9; document 02, L1), over any list of tasks
+-- whose priorities strictly fall: "L1's engine refuses ties with 9" (L6).
 -- Assumes nothing.
 use Prim.Native.Nat.{ℕ, _≤_, _<_}
 use mathlib.Core.Path.{_≡_}
@@ -7,7 +8,7 @@ use lib.Dec.{ltb}
 use lib.ListN.{length}
 use Rattle.model.specs.Choice.{both, on}
 use Rattle.model.specs.Lists.{wordOf}
-use Rattle.model.specs.Tables.{Task, taskOf}
+use Rattle.model.specs.Tables.{Task, taskOf, Falling}
 use Rattle.machine.specs.Machine.{State, after, bitOf, placeServed, played, ticksPlayed}
 use Rattle.runs.specs.Jobs.{jobOf, TasksFit, NoDelay}
 use Rattle.runs.specs.Schedule.{Schedule, serves, idle, Finished, LegalSchedule}
@@ -55,7 +56,7 @@ pub record AsInRun (tasks : List Task) (ticks : ℕ) (s : Schedule) (t : ℕ) : 
 -- `SynchronousIsRun`. It has such a schedule, and no other: `ScheduleExists`, `OnlySchedule`.)
 abbrev pub EveryTick : Type 0
 EveryTick =
-    (tasks : List Task) → TasksFit tasks → length tasks ≤ 32 →
+    (tasks : List Task) → TasksFit tasks → Falling tasks → length tasks ≤ 32 →
     (ticks : ℕ) (s : Schedule) → LegalSchedule tasks ticks (synchronous tasks ticks) s → (t : ℕ) → t ≤ ticks → AsInRun tasks ticks s t
 
 -- What a slice and a word hold beside that run after t ticks: the work left at each place, and a bit for each task that has some.
@@ -78,7 +79,7 @@ pub record IsFinished (tasks : List Task) (ticks : ℕ) (s : Schedule) (i j x : 
 -- "tick by tick up to the deadline of the task asked about, and reports when its first job is done"
 abbrev pub FirstJobDone : Type 0
 FirstJobDone =
-    (tasks : List Task) → TasksFit tasks → length tasks ≤ 32 →
+    (tasks : List Task) → TasksFit tasks → Falling tasks → length tasks ≤ 32 →
     (ticks : ℕ) (s : Schedule) → LegalSchedule tasks ticks (synchronous tasks ticks) s →
     (i j : ℕ) → i < length tasks → FirstJob (synchronous tasks ticks) i j →
     (x : ℕ) → 1 ≤ x → x ≤ taskOf tasks i .deadline → x ≤ ticks → IsFinished tasks ticks s i j x
@@ -86,5 +87,5 @@ FirstJobDone =
 -- "and to give the equation's answers"
 abbrev pub PlayedIsAnswer : Type 0
 PlayedIsAnswer =
-    (tasks : List Task) → TasksFit tasks → NoDelay tasks → length tasks ≤ 32 →
+    (tasks : List Task) → TasksFit tasks → Falling tasks → NoDelay tasks → length tasks ≤ 32 →
     (i : ℕ) → i < length tasks → engineAnswer tasks i ≡ responseOf tasks i

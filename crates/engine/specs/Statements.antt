@@ -1,4 +1,4 @@
--- What is claimed of the engine for the bytes of any table (SPECIFICATION 9; document 02, L1), as named statements about what `play`
+-- What is claimed of the engine for the bytes of any table (SPECIFICATION 9; document 02, L1 and L6), as named statements about what `play`
 -- answers and leaves (`Played`, its contract). The proofs are in proofs/Claims.antt.
 -- Assumes nothing.
 use Prim.Native.Nat.{ℕ, _≤_, _<_}
@@ -7,9 +7,10 @@ use mathlib.Core.Logic.{_⊎_}
 use mathlib.Core.List.{List}
 use lib.ListN.{length}
 use Rattle.model.specs.Lists.{filled}
+use Rattle.model.specs.Tables.{Falling}
 use Rattle.tables.specs.declared.Refusal.{Refusal}
 use Rattle.tables.specs.declared.Refusal.the-variants.{NotPlayable}
-use Rattle.tables.specs.Layout.{taskCount, rowCount, tasksOf, tableOf, earliestIn, latestIn}
+use Rattle.tables.specs.Layout.{taskCount, rowCount, tasksOf, tableOf, priorityIn, earliestIn, latestIn}
 use Rattle.tables.specs.Meaning.{TableRight, RoomFor}
 use Rattle.tables.specs.Deserved.{Deserved}
 use Rattle.machine.specs.Slices.{PlayLeaves}
@@ -25,11 +26,13 @@ use Rattle.engine.specs.Run.{AsInRun, HeldAsInRun}
 use Rattle.engine.specs.Held.{NumbersHeld}
 use Rattle.engine.specs.Outcome.{Played}
 
--- "Any nonzero jitter or delay, or any row" is what a table must not have; a constant delay is one too
+-- "Any nonzero jitter or delay, or any row" is what a table must not have; a constant delay is one too. Nor a tie: "L1's engine refuses ties
+-- with 9" (document 02, L6).
 pub record Plain (bytes : List ℕ) : Type 0 where
   pub noRow : rowCount bytes ≡ 0
   pub noEarliest : (i : ℕ) → i < taskCount bytes → earliestIn bytes i ≡ 0
   pub noLatest : (i : ℕ) → i < taskCount bytes → latestIn bytes i ≡ 0
+  pub noTie : (i k : ℕ) → i < taskCount bytes → k < taskCount bytes → priorityIn bytes i ≡ priorityIn bytes k → i ≡ k
 
 -- 9, "after 8": the table breaks no rule, there is room, and it is not plain
 pub record CannotPlay (bytes : List ℕ) (answers : ℕ) : Type 0 where
@@ -59,9 +62,10 @@ pub record PlayRefusals : Type 0 where
       Plain bytes → ¬ Played bytes answers (Refused refusal) left
 
 -- "It is proved to do what a run of document 01 does at every tick" (SPECIFICATION 9): `EveryTick`, for the tasks of any accepted table
+-- without ties
 abbrev pub TableEveryTick : Type 0
 TableEveryTick =
-    (bytes : List ℕ) → TableRight bytes → (ticks : ℕ) (s : Schedule) →
+    (bytes : List ℕ) → TableRight bytes → Falling (tasksOf bytes) → (ticks : ℕ) (s : Schedule) →
     LegalSchedule (tasksOf bytes) ticks (synchronous (tasksOf bytes) ticks) s → (t : ℕ) → t ≤ ticks → AsInRun (tasksOf bytes) ticks s t
 
 -- and the code does: where the columns hold the numbers of a table, what `play_all` leaves after the ticks that it played, as its
@@ -69,7 +73,7 @@ TableEveryTick =
 -- plays: `EveryLimit`.)
 abbrev pub CodeEveryTick : Type 0
 CodeEveryTick =
-    (bytes periods costs deadlines latest : List ℕ) → NumbersHeld bytes periods costs deadlines latest →
+    (bytes periods costs deadlines latest : List ℕ) → NumbersHeld bytes periods costs deadlines latest → Falling (tasksOf bytes) →
     (limit : ℕ) (left due leftNow dueNow : List ℕ) (t ready next : ℕ) →
     PlayLeaves periods costs (taskCount bytes) limit left due leftNow dueNow t ready next →
     (ticks : ℕ) (s : Schedule) → LegalSchedule (tasksOf bytes) ticks (synchronous (tasksOf bytes) ticks) s → t ≤ ticks →

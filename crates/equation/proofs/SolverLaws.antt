@@ -35,10 +35,11 @@ module _ (base : ℕ) (loads : List Load) (start late deadline : ℕ) where
       record { asked = a; here = refl; one = omega arith; inTime = h; climbed = omega arith; on = λ v l m. absurd (omega arith) }
 
   -- a start that is late
-  pub start-late : Solvable base loads start late deadline → deadline < start + late → SolvedBy base loads start late deadline 0 1
+  pub start-late : Solvable base loads start late deadline → deadline < start + late → SolvedBy base loads start late deadline true 0 1
   unfolding term
   start-late a h =
       record {
+        lateIs = refl;
         response = sym (all-late base loads (a .basePositive) start late deadline 0 (a .notAbove) h);
         rounds = sym (roundsBound .otherwise base loads start late deadline (a .basePositive) (a .notAbove) h);
       }
@@ -61,10 +62,11 @@ module _ (base : ℕ) (loads : List Load) (start late deadline : ℕ) where
         (search-laws.finds (stops base loads start late deadline) 1 (deadline + 1) k
         (record { passes = p; low = t .one; high = omega (arith, t .climbed, t .inTime); first = t .on }))
 
-    pub turn-late : (n : ℕ) → n ≡ demand base loads x → deadline < n + late → SolvedBy base loads start late deadline 0 k
+    pub turn-late : (n : ℕ) → n ≡ demand base loads x → deadline < n + late → SolvedBy base loads start late deadline true 0 k
     turn-late n e h =
         let late-now : deadline < term base loads start k + late = omega (arith, next) in
         record {
+          lateIs = refl;
           response = sym (all-late base loads (t .asked .basePositive) start late deadline k (t .asked .notAbove) late-now);
           rounds =
               last-round
@@ -79,10 +81,11 @@ module _ (base : ℕ) (loads : List Load) (start late deadline : ℕ) where
         (solution-smallest base loads (t .asked .basePositive) start (k - 1) (t .asked .notAbove)
         (subst (λ (y : ℕ). demand base loads y ≡ y) (t .here) e))
 
-    pub turn-found : (n : ℕ) → n ≡ demand base loads x → n ≡ x → SolvedBy base loads start late deadline (x + late) k
+    pub turn-found : (n : ℕ) → n ≡ demand base loads x → n ≡ x → SolvedBy base loads start late deadline false (x + late) k
     turn-found n is same =
         let e : demand base loads x ≡ x = sym is ∙ same in
         record {
+          lateIs = sym (ne-eqb (x + late) 0 (λ (z : x + late ≡ 0). omega (arith, equal-smallest e .positive)));
           response = sym (answerMeans .answered base loads late deadline x (equal-smallest e) (t .inTime));
           rounds =
               last-round

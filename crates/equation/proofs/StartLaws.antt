@@ -7,21 +7,23 @@ use native.Mathlib.Decide.{decLe}
 use native.Mathlib.Nat.{zero-add, suc-add}
 use mathlib.Core.Path.{_≡_, refl, sym, _∙_, ap}
 use mathlib.Core.Logic.{_⊎_, inl, inr}
-use mathlib.Core.List.{List, [], _∷_}
+use mathlib.Core.Bool.{Bool}
+use mathlib.Core.List.{List}
 use lib.ListN.{getD}
 use lib.Dec.{eqb}
 use borrow.Author.Tests.{eqb-true, eqb-false, ltb-true, ltb-false}
-use Rattle.model.specs.Lists.{sumOf, tabulate}
+use Rattle.model.specs.Lists.{sumOf, gather, total, wordOf}
 use Rattle.model.specs.Search.{firstFrom}
-use Rattle.model.specs.Tables.{Load}
-use Rattle.model.proofs.Lists.{getD-tabulate, length-tabulate, tabulate-more, sum-append}
+use Rattle.model.specs.Tables.{Load, isOther}
+use Rattle.model.proofs.Gather.{gather-each, gather-sum}
+use Rattle.model.proofs.Loads.{total-other}
 use Rattle.model.proofs.Tests.{bool?, not-either, either-true}
 use Rattle.equation.specs.declared.Start.{Start}
 use Rattle.equation.specs.declared.Start.the-variants.{EveryCost, OwnCost}
 use Rattle.equation.specs.Demand.{demand}
 use Rattle.equation.specs.Answer.{answer}
 use Rattle.equation.specs.Sequence.{term, rounds}
-use Rattle.equation.specs.Slices.{loads, loadAt}
+use Rattle.equation.specs.Slices.{loadAt}
 use Rattle.equation.specs.Laws.{IsSmallest, NotAbove, costOf, noLoad}
 use Rattle.equation.specs.Starts.{startFrom, PeriodsLow, answerFrom, AnyStart, BothStarts, BoundReached}
 use Rattle.equation.proofs.DemandLaws as demands
@@ -207,22 +209,13 @@ unfolding firstFrom term demand sumOf
 boundReached EveryCost = refl
 boundReached OwnCost = refl
 
--- loads made from places have periods where each place has one
-pub periods-low : (load : ℕ → Load) (n : ℕ) → ((k : ℕ) → k < n → 1 ≤ load k .period) → PeriodsLow (tabulate load n)
-periods-low load n each k h =
-    let inside : k < n = omega (arith, length-tabulate load n) in
-    rw (getD-tabulate load n k noLoad inside) (each k inside)
+-- loads gathered from places have periods where each place has one
+pub periods-low : (test : ℕ → Bool) (load : ℕ → Load) (n : ℕ) → ((k : ℕ) → k < n → 1 ≤ load k .period) → PeriodsLow (gather test load n)
+periods-low test load n each = gather-each test load (λ l. 1 ≤ l .period) noLoad n each
 
--- the sum of costs runs along from load to load
-module _ (periods costs spreads : List ℕ) where
-  pub costs-none : sumOf costOf (loads periods costs spreads 0) ≡ 0
-  unfolding tabulate sumOf
-  costs-none = refl
-
-  pub costs-more : (k : ℕ) → sumOf costOf (loads periods costs spreads (k + 1)) ≡ sumOf costOf (loads periods costs spreads k) + getD costs k 0
-  unfolding sumOf
-  costs-more k =
-      let l = loadAt periods costs spreads k in
-      ap (sumOf costOf) (tabulate-more (loadAt periods costs spreads) k)
-      ∙ sum-append costOf (loads periods costs spreads k) (l ∷ [])
-      ∙ omega arith
+-- one cost of each load, and the own cost, are the costs of all places
+pub costs-others : (periods costs spreads : List ℕ) (own end : ℕ) → own < end →
+    sumOf costOf (gather (isOther own) (loadAt periods costs spreads) end) + getD costs own 0 ≡ total (wordOf costs) end
+costs-others periods costs spreads own end h =
+    ap (λ (n : ℕ). n + getD costs own 0) (gather-sum (isOther own) (loadAt periods costs spreads) costOf end)
+    ∙ total-other (wordOf costs) own end h

@@ -10,6 +10,7 @@ use Rattle.equation.specs.Rounding.{ceilDiv}
 abbrev pub share : ℕ → Load → ℕ
 share w l = l .cost * ceilDiv (w + l .spread) (l .period)
 
--- "For a tick count w, demand(i, w) is C_i + B_i plus, over every more urgent j, ..": base is C_i + B_i
+-- "For a tick count w, demand(i, w) is C_i + B_i plus, over every more urgent j, ..", read with "Every other task of equal or greater
+-- priority interferes" (document 02, L6): base is C_i + B_i, and `loads` are those of the tasks that interfere
 unfoldable pub demand : ℕ → List Load → ℕ → ℕ
 demand base loads w = base + sumOf (share w) loads

@@ -3,16 +3,22 @@
 use Prim.Native.Nat.{ℕ, _≤_, _<_}
 use mathlib.Core.List.{List}
 use lib.ListN.{length, getD}
-use Rattle.model.specs.Lists.{tabulate}
-use Rattle.model.specs.Tables.{Load}
+use Rattle.model.specs.Lists.{tabulate, gather}
+use Rattle.model.specs.Tables.{Load, isOther}
+
+abbrev pub load : (period cost spread : ℕ) → Load
+load period cost spread = record { period = period; cost = cost; spread = spread }
 
 abbrev pub loadAt : List ℕ → List ℕ → List ℕ → ℕ → Load
-loadAt periods costs spreads k =
-    record { period = getD periods k 0; cost = getD costs k 0; spread = getD spreads k 0 }
+loadAt periods costs spreads k = load (getD periods k 0) (getD costs k 0) (getD spreads k 0)
 
--- the first `count` loads
-abbrev pub loads : List ℕ → List ℕ → List ℕ → ℕ → List Load
-loads periods costs spreads count = tabulate (loadAt periods costs spreads) count
+-- the loads of the first `count` places
+abbrev pub loadsTo : List ℕ → List ℕ → List ℕ → ℕ → List Load
+loadsTo periods costs spreads count = tabulate (loadAt periods costs spreads) count
+
+-- the same but for place `own`, if that is one of them
+abbrev pub loads : List ℕ → List ℕ → List ℕ → (own count : ℕ) → List Load
+loads periods costs spreads own count = gather (isOther own) (loadAt periods costs spreads) count
 
 -- the limits for one load (SPECIFICATION 2.5; document 01): "T and C are 1 to 1,000,000", "J is 0 to 1,000,000"
 pub record LoadFits (l : Load) : Type 0 where

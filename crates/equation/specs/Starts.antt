@@ -14,11 +14,11 @@ use Rattle.equation.specs.Answer.{answerFor, answer}
 use Rattle.equation.specs.Sequence.{term, rounds}
 use Rattle.equation.specs.Laws.{NotAbove, costOf, noLoad}
 
--- "the task's cost and blocking plus one cost of every more urgent task", or "the old start": document 01's "x0 = C_i + B_i"
--- (SPECIFICATION 5.1)
+-- "the task's cost and blocking plus one cost of every more urgent task" (document 02, L5), which are now those that interfere (L6: "so read
+-- demand, rounds and L5's start"), or "the old start": document 01's "x0 = C_i + B_i" (SPECIFICATION 5.1)
 abbrev pub firstTerm : Start → ℕ → ℕ → ℕ
-firstTerm EveryCost base urgent = base + urgent
-firstTerm OwnCost base urgent = base
+firstTerm EveryCost base others = base + others
+firstTerm OwnCost base others = base
 
 -- x0 over a list of loads: one cost of each, whatever its spread lets in at once
 abbrev pub startFrom : Start → ℕ → List Load → ℕ

@@ -3,26 +3,27 @@ ghost use mathlib.Core.Path.{_≡_};
 ghost use Prim.Native.Nat.{_+_, _≤_};
 ghost use Rattle.equation.specs.Rounding.{ceilDiv};
 ghost use Rattle.equation.specs.Demand as spec;
-ghost use Rattle.equation.specs.Slices.{loads, LoadsFit};
+ghost use Rattle.equation.specs.Demand.{share};
+ghost use Rattle.equation.specs.Slices.{load, loadsTo, loads, LoadFits, LoadsFit};
 ghost use Rattle.equation.specs.Solver.{Solvable, SolvedBy};
 ghost use Rattle.equation.specs.Starts.{firstTerm};
 use model::Ticks;
 
 // Where the written sequence starts (SPECIFICATION 5.1; document 02, L5). Both starts lead to the same answers; the rounds differ.
 pub enum Start {
-    // The default: the task's cost and blocking, and one cost of every more urgent task, as source document 002 has it.
+    // The default: the task's cost and blocking, and one cost of every task that interferes with it, as source document 002 has it.
     EveryCost,
     // The task's cost and blocking alone, as source document 000 has it: document 01's rounds.
     OwnCost,
 }
 
-// The first term from a start: `base` is the task's cost and blocking, `urgent` one cost of every more urgent task.
-pub fn first_term(start: Start, base: Ticks, urgent: Ticks) -> Ticks
-    requires { ⌜ base .0 + urgent .0 ≤ 1000000000 ⌝ }
-    ensures { λ r. ⌜ r .0 ≡ firstTerm start (base .0) (urgent .0) ⌝ }
+// The first term from a start: `base` is the task's cost and blocking, `others` one cost of every task that interferes with it.
+pub fn first_term(start: Start, base: Ticks, others: Ticks) -> Ticks
+    requires { ⌜ base .0 + others .0 ≤ 1000000000 ⌝ }
+    ensures { λ r. ⌜ r .0 ≡ firstTerm start (base .0) (others .0) ⌝ }
 {
     match start {
-        Start::EveryCost => Ticks(base.0 + urgent.0),
+        Start::EveryCost => Ticks(base.0 + others.0),
         Start::OwnCost => base,
     }
 }
@@ -41,8 +42,17 @@ pub fn div_up(n: Ticks, d: Ticks) -> u32
     (n.0 - 1) / d.0 + 1
 }
 
-// What the task and the first `count` loads ask for in w ticks. The sum does not fit 32 bits.
-pub fn demand(
+// What a load asks for in w ticks. It does not fit 32 bits.
+fn share_of(period: Ticks, cost: Ticks, spread: Ticks, w: Ticks) -> u64
+    requires { ⌜ LoadFits (load (period .0) (cost .0) (spread .0)) × (w .0 ≤ 1000000000) ⌝ }
+    ensures { λ r. ⌜ r ≡ share (w .0) (load (period .0) (cost .0) (spread .0)) ⌝ }
+{
+    let begun = div_up(Ticks(w.0 + spread.0), period);
+    (cost.0 as u64) * (begun as u64)
+}
+
+// What `base` and the loads of the first `count` places ask for in w ticks.
+fn asked(
     periods: &[u32],
     costs: &[u32],
     spreads: &[u32],
@@ -52,18 +62,45 @@ pub fn demand(
 ) -> u64
     requires { ⌜ LoadsFit (now periods) (now costs) (now spreads) count ⌝ }
     requires { ⌜ w .0 ≤ 1000000000 ⌝ }
-    ensures { λ r. ⌜ r ≡ spec.demand (base .0) (loads (now (periods .entry)) (now (costs .entry)) (now (spreads .entry)) count) (w .0) ⌝ }
+    ensures { λ r. ⌜ r ≡ spec.demand (base .0) (loadsTo (now (periods .entry)) (now (costs .entry)) (now (spreads .entry)) count) (w .0) ⌝ }
 {
     let mut sum = base.0 as u64;
     for k in 0..count {
-        let begun = div_up(Ticks(w.0 + spreads[k]), Ticks(periods[k]));
-        sum += (costs[k] as u64) * (begun as u64);
+        sum += share_of(Ticks(periods[k]), Ticks(costs[k]), Ticks(spreads[k]), w);
     }
     sum
 }
 
-// A task's longest response time, 0 where it is late, and the rounds spent on it.
+// What the task at place `own` and its loads ask for in w ticks: those of the first `count` places without its own.
+pub fn demand(
+    periods: &[u32],
+    costs: &[u32],
+    spreads: &[u32],
+    own: usize,
+    count: usize,
+    base: Ticks,
+    w: Ticks,
+) -> u64
+    requires { ⌜ LoadsFit (now periods) (now costs) (now spreads) count ⌝ }
+    requires { ⌜ w .0 ≤ 1000000000 ⌝ }
+    ensures { λ r. ⌜ r ≡ spec.demand (base .0) (loads (now (periods .entry)) (now (costs .entry)) (now (spreads .entry)) own count) (w .0) ⌝ }
+{
+    let all = asked(periods, costs, spreads, count, base, w);
+    if count <= own {
+        return all;
+    }
+    all
+        - share_of(
+            Ticks(periods[own]),
+            Ticks(costs[own]),
+            Ticks(spreads[own]),
+            w,
+        )
+}
+
+// Whether a task is late, its longest response time, 0 where it is, and the rounds spent on it.
 pub struct Solved {
+    pub late: bool,
     pub response: Ticks,
     pub rounds: u32,
 }
@@ -74,6 +111,7 @@ pub fn solve(
     periods: &[u32],
     costs: &[u32],
     spreads: &[u32],
+    own: usize,
     count: usize,
     base: Ticks,
     start: Ticks,
@@ -81,31 +119,34 @@ pub fn solve(
     deadline: Ticks,
 ) -> Solved
     requires { ⌜ LoadsFit (now periods) (now costs) (now spreads) count ⌝ }
-    requires { ⌜ Solvable (base .0) (loads (now periods) (now costs) (now spreads) count) (start .0) (late .0) (deadline .0) ⌝ }
-    ensures { λ r. ⌜ SolvedBy (base .0) (loads (now (periods .entry)) (now (costs .entry)) (now (spreads .entry)) count) (start .0) (late .0) (deadline .0) (r .response .0) (r .rounds) ⌝ }
+    requires { ⌜ Solvable (base .0) (loads (now periods) (now costs) (now spreads) own count) (start .0) (late .0) (deadline .0) ⌝ }
+    ensures { λ r. ⌜ SolvedBy (base .0) (loads (now (periods .entry)) (now (costs .entry)) (now (spreads .entry)) own count) (start .0) (late .0) (deadline .0) (r .late) (r .response .0) (r .rounds) ⌝ }
 {
-    let own = late.0;
+    let delay = late.0;
     let due = deadline.0;
     let mut x = start.0;
     let mut rounds: u32 = 1;
-    if due < x + own {
+    if due < x + delay {
         return Solved {
+            late: true,
             response: Ticks(0),
             rounds,
         };
     }
-    let limit = (due - own) as u64;
+    let limit = (due - delay) as u64;
     loop {
-        let next = demand(periods, costs, spreads, count, base, Ticks(x));
+        let next = demand(periods, costs, spreads, own, count, base, Ticks(x));
         if limit < next {
             return Solved {
+                late: true,
                 response: Ticks(0),
                 rounds,
             };
         }
         if next == x as u64 {
             return Solved {
-                response: Ticks(x + own),
+                late: false,
+                response: Ticks(x + delay),
                 rounds,
             };
         }

@@ -5,3 +5,7 @@ pub mod First
 pub mod Filling
 pub mod Tasks
 pub mod Keep
+pub mod Append
+pub mod Gather
+pub mod Loads
+pub mod Any

@@ -80,3 +80,7 @@ on-high false n = omega arith
 pub both-fail : (a b : Bool) → b ≡ false → both a b ≡ false
 both-fail true b p = p
 both-fail false b p = refl
+
+pub both-unit : (b : Bool) → both b true ≡ b
+both-unit true = refl
+both-unit false = refl

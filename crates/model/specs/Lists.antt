@@ -12,6 +12,11 @@ module _ {A : Type 0} where
   tabulate f zero = []
   tabulate f (suc n) = tabulate f n ++ (f n ∷ [])
 
+  -- f k for each k below n that passes a test, in their order
+  unfoldable pub gather : (ℕ → Bool) → (ℕ → A) → ℕ → List A
+  gather test f zero = []
+  gather test f (suc n) = gather test f n ++ pick (test n) (f n ∷ []) []
+
   -- what a list is once its first n words are f 0 to f (n − 1) and the later ones have stayed
   abbrev pub filled : (ℕ → A) → ℕ → List A → List A
   filled f n old = tabulate f n ++ drop n old

@@ -1,12 +1,14 @@
--- What a task, a section row and a table are, as records of numbers (SPECIFICATION 1 and 2; document 01, "The table's bytes"), and what
--- the more urgent tasks ask for.
+-- What a task, a section row and a table are, as records of numbers (SPECIFICATION 1 and 2; document 01, "The table's bytes"), and which
+-- tasks interfere with a task.
 -- Assumes nothing.
-use Prim.Native.Nat.{ℕ, _-_}
-use mathlib.Core.Bool.{Bool}
+use Prim.Native.Nat.{ℕ, suc, _-_, _<_}
+use mathlib.Core.Path.{_≡_}
+use mathlib.Core.Bool.{Bool, not}
 use mathlib.Core.List.{List, map}
-use lib.Dec.{ltb}
-use lib.ListN.{getD}
-use Rattle.model.specs.Lists.{keep}
+use lib.Dec.{eqb, leb, ltb}
+use lib.ListN.{length, getD}
+use Rattle.model.specs.Choice.{both}
+use Rattle.model.specs.Lists.{gather, keep}
 
 -- "priority (1 byte), period T, cost C, deadline D", and the two delays: "earliest and latest delay in place of J" (SPECIFICATION 2.3;
 -- document 02, L4). "A larger priority number is more urgent."
@@ -36,7 +38,7 @@ noTask = record { priority = 0; period = 1; cost = 0; deadline = 1; earliest = 0
 abbrev pub taskOf : List Task → ℕ → Task
 taskOf tasks i = getD tasks i noTask
 
--- What a task asks of the less urgent ones: its cost, once for each period begun in w + spread ticks.
+-- What a task asks of those that it interferes with: its cost, once for each period begun in w + spread ticks.
 pub record Load : Type 0 where
   pub period : ℕ
   pub cost : ℕ
@@ -49,10 +51,37 @@ spreadOf t = t .latest - t .earliest
 abbrev pub loadOf : Task → Load
 loadOf t = record { period = t .period; cost = t .cost; spread = spreadOf t }
 
--- is a task more urgent than priority p?
+-- the priority of the task at a place, and what the task asks of the others
+abbrev pub priorityOf : List Task → ℕ → ℕ
+priorityOf tasks k = taskOf tasks k .priority
+
+abbrev pub loadFrom : List Task → ℕ → Load
+loadFrom tasks k = loadOf (taskOf tasks k)
+
+-- is place k another one than place i?
+abbrev pub isOther : ℕ → ℕ → Bool
+isOther i k = not (eqb k i)
+
+-- "Every other task of equal or greater priority interferes" (SPECIFICATION 4.2; document 02, L6): does the task at place k interfere with
+-- the one at place i? The priorities are given by their places.
+abbrev pub interferes : (ℕ → ℕ) → ℕ → ℕ → Bool
+interferes priority i k = both (isOther i k) (leb (priority i) (priority k))
+
+-- the loads of the task at place i: those of every task that interferes with it, on both sides of it in the table
+abbrev pub loadsOf : List Task → ℕ → List Load
+loadsOf tasks i = gather (interferes (priorityOf tasks) i) (loadFrom tasks) (length tasks)
+
+-- a task whose priority no other task has
+abbrev pub Alone : List Task → ℕ → Type 0
+Alone tasks i = (k : ℕ) → k < length tasks → priorityOf tasks k ≡ priorityOf tasks i → k ≡ i
+
+-- "strictly fall from each record to the next" (document 01): no priority is repeated
+abbrev pub Falling : List Task → Type 0
+Falling tasks = (i : ℕ) → suc i < length tasks → priorityOf tasks (suc i) < priorityOf tasks i
+
+-- document 01's loads, "over every more urgent j": is a task more urgent than priority p?
 abbrev pub moreUrgent : ℕ → Task → Bool
 moreUrgent p t = ltb p (t .priority)
 
--- "over every more urgent j"
-abbrev pub loadsOf : List Task → ℕ → List Load
-loadsOf tasks i = map loadOf (keep (moreUrgent (taskOf tasks i .priority)) tasks)
+abbrev pub moreUrgentLoads : List Task → ℕ → List Load
+moreUrgentLoads tasks i = map loadOf (keep (moreUrgent (priorityOf tasks i)) tasks)

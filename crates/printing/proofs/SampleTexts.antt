@@ -1,7 +1,7 @@
 -- The sample texts, computed.
 -- Assumes nothing.
 use mathlib.Core.Path.{refl}
-use Rattle.model.specs.Lists.{tabulate, keep, sumOf, largestOf}
+use Rattle.model.specs.Lists.{tabulate, gather, sumOf, largestOf}
 use Rattle.model.specs.Search.{firstFrom, firstOf}
 use Rattle.tables.specs.Layout.{layoutFor}
 use Rattle.tables.specs.Refusals.{unless, orElse, firstIn, fieldsCheck}
@@ -17,5 +17,5 @@ use Rattle.printing.specs.Answered.{answerText}
 use Rattle.printing.specs.Samples.{samples, SamplesRight}
 
 pub samplesRight : SamplesRight
-unfolding tabulate keep sumOf largestOf firstFrom firstOf layoutFor unless orElse firstIn fieldsCheck countTest lengthsAgree priorityFits recordTest rowAfter rowTest countsCheck recordCheck rowCheck headCheck recordsCheck rowsCheck bodyCheck roomCheck tableCheckSpanning demand term ceiling blockingOf answerOf roundsOf verdictOf answersAfter roundsAfter decimalOf taskLines answerText samples
+unfolding tabulate gather sumOf largestOf firstFrom firstOf layoutFor unless orElse firstIn fieldsCheck countTest lengthsAgree priorityFits recordTest rowAfter rowTest countsCheck recordCheck rowCheck headCheck recordsCheck rowsCheck bodyCheck roomCheck tableCheckSpanning demand term ceiling blockingOf answerOf roundsOf verdictOf answersAfter roundsAfter decimalOf taskLines answerText samples
 samplesRight = refl

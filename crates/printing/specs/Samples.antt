@@ -6,7 +6,7 @@ use Prim.Native.Nat.{ℕ}
 use Prim.Native.String.{String}
 use mathlib.Core.Path.{_≡_}
 use mathlib.Core.List.{List, [], _∷_, _++_, map}
-use Rattle.encoding.specs.Examples.{fifth, late, sections, delays, refused}
+use Rattle.encoding.specs.Examples.{fifth, late, sections, delays, groups, refused}
 use Rattle.equation.specs.declared.Start.{Start}
 use Rattle.equation.specs.declared.Start.the-variants.{EveryCost, OwnCost}
 use Rattle.printing.specs.Text.{bytesOf}
@@ -33,6 +33,8 @@ samples =
     ∷ sample EveryCost late "tasks 2\n0 response 20 deadline 20 rounds 1\n1 late deadline 25 rounds 1\nlate 1\n"
     ∷ sample EveryCost sections "tasks 4\n0 response 2 deadline 5 rounds 1\n1 response 10 deadline 12 rounds 1\n2 response 19 deadline 40 rounds 2\n3 response 26 deadline 50 rounds 3\nschedulable\n"
     ∷ sample EveryCost delays "tasks 2\n0 response 20 deadline 20 rounds 1\n1 response 25 deadline 25 rounds 1\nschedulable\n"
+    ∷ sample OwnCost groups "tasks 3\n0 response 1 deadline 4 rounds 1\n1 late deadline 6 rounds 2\n2 response 10 deadline 10 rounds 5\nlate 1\n"
+    ∷ sample EveryCost groups "tasks 3\n0 response 1 deadline 4 rounds 1\n1 late deadline 6 rounds 1\n2 response 10 deadline 10 rounds 4\nlate 1\n"
     ∷ sample EveryCost longer "refused 4 at 0\n"
     ∷ sample EveryCost refused "refused 5 at 31\n"
     ∷ []

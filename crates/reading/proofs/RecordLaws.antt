@@ -7,14 +7,14 @@ use mathlib.Core.Path.{_≡_, refl, sym, _∙_, ap, subst}
 use mathlib.Core.Bool.{Bool, true, false}
 use mathlib.Core.List.{List, [], _∷_}
 use mathlib.Core.Logic.{inl, inr}
-use lib.Dec.{eqb, leb, ltb}
+use lib.Dec.{eqb, leb}
 use lib.ListN.{length}
 use borrow.Author.Tests.{ne-eqb, le-leb, lt-leb}
 use Rattle.model.specs.Choice.{both, either}
 use Rattle.model.specs.Tables.{Task}
 use Rattle.model.specs.Search.{firstOf}
 use Rattle.model.proofs.First as first-laws
-use Rattle.model.proofs.Tests.{leb?, ltb?, both-pass, both-fail}
+use Rattle.model.proofs.Tests.{ltb?, both-pass, both-fail}
 use Rattle.tables.specs.declared.layout.Layout.{Layout}
 use Rattle.tables.specs.declared.Refusal.the-variants.{NumberOutOfRange}
 use Rattle.tables.specs.declared.Check.{Check}
@@ -60,37 +60,18 @@ delay-refused span task layout start highest period cost deadline wrong at e =
           (period, (cost, (deadline, (both-pass (le-leb 0 (task .earliest) (omega arith)) (le-leb (task .earliest) 1000000 (near .1)), tt)))) wrong)
     ]
 
--- what a clean record says to the subtractions that follow it
-pub record Subtracts (task : Task) : Type 0 where
-  pub delays : task .earliest ≤ task .latest
-  pub priority : 1 ≤ task .priority
-
-pub clean-subtracts : (span : ℕ) (task : Task) (layout : Layout) (start highest : ℕ) (found : Check) →
-    found ≡ recordFault (atRecord layout start span highest) task → isClean found ≡ true → Subtracts task
+-- what a clean record says to the subtraction that follows it
+pub clean-delays : (span : ℕ) (task : Task) (layout : Layout) (start highest : ℕ) (found : Check) →
+    found ≡ recordFault (atRecord layout start span highest) task → isClean found ≡ true → task .earliest ≤ task .latest
 unfolding recordTest
-clean-subtracts span task layout start highest found e clean =
+clean-delays span task layout start highest found e clean =
     let passed = tests-passed _ (recordRefusal layout start) recordOrder (sym e ∙ clean-only found clean) in
-    record {
-      delays = between-means (task .earliest) 1000000 (task .latest) (passed .1 .1 .1 .1 .0) .low;
-      priority = between-means 1 highest (task .priority) (passed .1 .1 .1 .1 .1 .0) .low;
-    }
+    between-means (task .earliest) 1000000 (task .latest) (passed .1 .1 .1 .1 .0) .low
 
--- the highest priority that record i may have: one below that of the record before, and any for the first
+-- the highest priority that record i may have: that of the record before, and any for the first
 pub highestFor : List ℕ → ℕ → ℕ
 highestFor bytes zero = 255
-highestFor bytes (suc i) = priorityIn bytes i - 1
-
--- at least 1, and below another
-below : (p q : ℕ) → both (leb 1 p) (leb p (q - 1)) ≡ both (leb 1 p) (ltb p q)
-below p q =
-    elim (leb? 1 p) [
-      | inr none ↦ rw (none .0)
-      | inl some ↦
-          elim (ltb? p q) [
-            | inl less ↦ rw (less .0, le-leb p (q - 1) (omega (arith, less .1)))
-            | inr more ↦ rw (more .0, lt-leb p (q - 1) (omega (arith, more .1, some .1)))
-          ]
-    ]
+highestFor bytes (suc i) = priorityIn bytes i
 
 -- before record i is read
 pub record Reading (span : ℕ) (bytes : List ℕ) (layout : Layout) (n i start highest : ℕ) : Type 0 where
@@ -138,11 +119,11 @@ module _ (span : ℕ) (bytes : List ℕ) (layout : Layout) (n : ℕ) where
 
           go : (k : ℕ) → highest ≡ highestFor bytes k →
               between 1 highest (priorityIn bytes i)
-              ≡ both (leb 1 (priorityIn bytes i)) (either (eqb k 0) (ltb (priorityIn bytes i) (priorityIn bytes (k - 1))))
+              ≡ both (leb 1 (priorityIn bytes i)) (either (eqb k 0) (leb (priorityIn bytes i) (priorityIn bytes (k - 1))))
           go zero e = rw (e, le-leb (priorityIn bytes i) 255 (omega (arith, small)))
           go (suc k) e =
               let back : suc k - 1 ≡ k = omega arith in
-              rw (e, back, ne-eqb (suc k) 0 (λ (z : suc k ≡ 0). omega arith)) (below (priorityIn bytes i) (priorityIn bytes k))
+              rw (e, back, ne-eqb (suc k) 0 (λ (z : suc k ≡ 0). omega arith)) refl
 
       module _ (found : Check) (e : found ≡ recordFault (atRecord layout start span highest) task) where
         check-is : recordCheck span bytes i ≡ found
@@ -163,7 +144,7 @@ module _ (span : ℕ) (bytes : List ℕ) (layout : Layout) (n : ℕ) where
         record-wrong wrong =
             stops-at (recordCheck span bytes) i (r .clean) (taskCount bytes) (omega (arith, r .head .counted)) found check-is wrong
 
-        pub reading-more : isClean found ≡ true → (next : ℕ) → next ≡ task .priority - 1 →
+        pub reading-more : isClean found ≡ true → (next : ℕ) → next ≡ task .priority →
             Reading span bytes layout n (i + 1) (start + layout .size) next
         unfolding highestFor
         reading-more clean next is =
@@ -173,7 +154,7 @@ module _ (span : ℕ) (bytes : List ℕ) (layout : Layout) (n : ℕ) where
               within = omega arith;
               here = ap (λ (s : ℕ). s + layout .size) (r .here) ∙ next-start layout i;
               clean = goes-on (recordCheck span bytes) i (r .clean) (check-is ∙ clean-only found clean);
-              last = rw add-one (is ∙ ap (λ (t : Task). t .priority - 1) task-is);
+              last = rw add-one (is ∙ ap (λ (t : Task). t .priority) task-is);
             }
 
   pub reading-all : {i start highest : ℕ} → Reading span bytes layout n i start highest → n ≤ i →

@@ -3,7 +3,7 @@
 -- What is found in a record or a row has two forms. The one to believe stands in crates/tables/specs: the rules of each field (Meaning.antt)
 -- and the refusal that a broken one deserves (Deserved.antt), by the bytes of the whole table; Checks.antt has the same as tests,
 -- `recordCheck` and `rowCheck`. The form here, `recordFault` and `rowFault`, is what the code has at hand while it reads: the record's own
--- numbers, and in place of the record or row before one number, the highest priority that is left or the key of the row before. It exists
+-- numbers, and in place of the record or row before one number, the highest priority that it may have or the key of the row before. It exists
 -- for the contracts of `records::check` and `rows::check` alone. That both are the same is proved in proofs/RecordLaws.antt and
 -- RowLaws.antt, and the contract of `reading::read` speaks of the first only.
 -- Assumes nothing.

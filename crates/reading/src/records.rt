@@ -161,8 +161,8 @@ pub fn read_all(
         words[2 * room + i] = task.deadline.0;
         words[3 * room + i] = task.latest.0 - task.earliest.0;
         words[4 * room + i] = task.latest.0;
-        // priorities strictly fall
-        highest = Priority(task.priority.0 - 1);
+        // priorities may repeat, but not rise
+        highest = task.priority;
         at += layout.size;
     }
     Check::Clean

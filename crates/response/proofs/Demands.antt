@@ -12,7 +12,8 @@ use lib.Dec.{eqb}
 use lib.ListN.{length, getD}
 use borrow.Author.Tests.{eqb-true, eqb-false}
 use Rattle.model.specs.Lists.{filled, tabulate, largestOf, wordOf}
-use Rattle.model.specs.Tables.{Table, taskOf, loadsOf}
+use Rattle.model.specs.Tables.{Table, taskOf, loadsOf, Alone, Falling}
+use Rattle.model.proofs.Loads.{falling-alone}
 use Rattle.model.proofs.Lists.{getD-filled, getD-filled-past, length-filled}
 use Rattle.model.proofs.Tests.{bool?, clash}
 use Rattle.model.proofs.First as first-laws
@@ -30,7 +31,7 @@ use Rattle.equation.proofs.Laws.{answerMeans, roundsBound}
 use Rattle.equation.proofs.StartLaws.{bothStarts, last-stops, earlier-goes-on}
 use Rattle.blocking.specs.Ceilings.{blockingOf, section}
 use Rattle.runs.specs.Jobs.{NoDelay}
-use Rattle.runs.specs.Statement.{Answers, responseOf}
+use Rattle.runs.specs.Statement.{NoneExceeds, Answers, responseOf}
 use Rattle.runs.proofs.EquationRight as runs
 use Rattle.answering.specs.declared.Verdict.{Verdict}
 use Rattle.answering.specs.declared.Verdict.the-variants as verdict
@@ -265,7 +266,7 @@ module _ (start : Start) (lent : Call) (result : Left) (o : Outcome start lent r
       record {
         answersRight = λ i h. rw (answer-word i h) (answer-right (tableOf bytes) i (cost-low i h));
         roundsRight = λ i h.
-            rw (rounds-word i h) (rounds-right (tableOf bytes) i (cost-low i h) start (periods-of bytes (accepted .right .records) i h));
+            rw (rounds-word i h) (rounds-right (tableOf bytes) i (cost-low i h) start (periods-of bytes (accepted .right .records) i));
         answersLong =
             ap length answers-filled ∙ length-filled (answerOf (tableOf bytes)) (taskCount bytes) (lent .answers) (accepted .room .answersLong);
         roundsLong =
@@ -281,14 +282,30 @@ module _ (start : Start) (lent : Call) (result : Left) (o : Outcome start lent r
             (result-right (answerOf (tableOf bytes)) (taskCount bytes)));
       }
 
-  run-answers : NoDelay (tasksOf bytes) → rowCount bytes ≡ 0 → (i : ℕ) → i < taskCount bytes →
-      Answers (tasksOf bytes) i (wordOf (result .answers) i)
-  run-answers calm bare i h =
-      rw (answer-word i h ∙ plain-answer bytes calm bare i h)
-      (runs.equationRight (tasksOf bytes) (tasks-fit bytes (accepted .right .records)) calm i (omega (arith, tasks-count bytes)))
+  module _ (calm : NoDelay (tasksOf bytes)) (bare : rowCount bytes ≡ 0) (i : ℕ) (h : i < taskCount bytes) where
+    isTask : i < length (tasksOf bytes)
+    isTask = omega (arith, tasks-count bytes)
+
+    none-exceeds : NoneExceeds (tasksOf bytes) i (wordOf (result .answers) i)
+    none-exceeds =
+        rw (answer-word i h ∙ plain-answer bytes calm bare i h)
+        (runs.equationRight .firstHalf (tasksOf bytes) (tasks-fit bytes (accepted .right .records)) calm i isTask)
+
+    run-answers : Alone (tasksOf bytes) i → Answers (tasksOf bytes) i (wordOf (result .answers) i)
+    run-answers alone =
+        rw (answer-word i h ∙ plain-answer bytes calm bare i h)
+        (runs.equationRight .bothHalves (tasksOf bytes) (tasks-fit bytes (accepted .right .records)) calm i isTask alone)
+
+    all-answers : Falling (tasksOf bytes) → Answers (tasksOf bytes) i (wordOf (result .answers) i)
+    all-answers falling = run-answers (falling-alone (tasksOf bytes) falling i isTask)
 
 pub demand2 : says.Demand2
 demand2 = written
 
 pub demand3 : says.Demand3
-demand3 = run-answers
+demand3 =
+    record {
+      firstHalf = none-exceeds;
+      bothHalves = run-answers;
+      noTies = λ start lent result o accepted calm bare falling i h. all-answers start lent result o accepted calm bare i h falling;
+    }

@@ -5,6 +5,7 @@ pub mod PlaceLaws
 pub mod Demands
 pub mod OnlyWritten
 pub mod Starts
+pub mod Ties
 pub mod VersionOne
 pub mod WorkedTables
 pub mod WorkedBytes

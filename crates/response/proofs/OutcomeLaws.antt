@@ -52,7 +52,7 @@ module _ (start : Start) (bytes answers rounds : List ℕ) where
       -- answers that agree with the table's, task by task, are the outcome
       pub answered : (d : Decoded) (v : Verdict) (answersLeft roundsLeft : List ℕ) →
           Answered start d n v (slice answers answersLeft) (slice rounds roundsLeft) →
-          ((i : ℕ) → i < n → answerIn d i ≡ answerOf (tableOf bytes) i) → ((i : ℕ) → i < n → roundsIn start d i ≡ roundsOf start (tableOf bytes) i) →
+          ((i : ℕ) → i < n → answerIn d n i ≡ answerOf (tableOf bytes) i) → ((i : ℕ) → i < n → roundsIn start d n i ≡ roundsOf start (tableOf bytes) i) →
           Outcome start (lending bytes answers rounds) (leaving v answersLeft roundsLeft)
       unfolding verdictOf answersAfter roundsAfter
       answered d v answersLeft roundsLeft a answer round =
@@ -60,11 +60,11 @@ module _ (start : Start) (bytes answers rounds : List ℕ) where
             verdictIs =
                 rw accepted
                 (a .verdictIs
-                ∙ first-same isSchedulable verdict.Schedulable (λ i. lateIf (answerIn d i) (at i)) (λ i. lateIf (answerOf (tableOf bytes) i) (at i)) n
+                ∙ first-same isSchedulable verdict.Schedulable (λ i. lateIf (answerIn d n i) (at i)) (λ i. lateIf (answerOf (tableOf bytes) i) (at i)) n
                 (λ i h. ap (λ (x : ℕ). lateIf x (at i)) (answer i h))
                 ∙ ap (resultOf (answerOf (tableOf bytes))) counted);
-            answersAre = rw accepted (a .answersAre ∙ filled-all (answerIn d) (answerOf (tableOf bytes)) answers answer);
-            roundsAre = rw accepted (a .roundsAre ∙ filled-all (roundsIn start d) (roundsOf start (tableOf bytes)) rounds round);
+            answersAre = rw accepted (a .answersAre ∙ filled-all (answerIn d n) (answerOf (tableOf bytes)) answers answer);
+            roundsAre = rw accepted (a .roundsAre ∙ filled-all (roundsIn start d n) (roundsOf start (tableOf bytes)) rounds round);
           }
 
 -- and with the verdict in one number it is what C sees

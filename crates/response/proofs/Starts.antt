@@ -44,7 +44,7 @@ module _ (bytes : List ℕ) (right : TableRight bytes) (i : ℕ) (h : i < taskCo
   reached start w s =
       let base = baseOf (tableOf bytes) i in
       let loads = loadsOf (tasksOf bytes) i in
-      let low = bothStarts .notAbove start base loads (periods-of bytes (right .records) i h) w (s .positive) (s .solution) in
+      let low = bothStarts .notAbove start base loads (periods-of bytes (right .records) i) w (s .positive) (s .solution) in
       (low, sequenceReaches .reaches base loads (startOf start (tableOf bytes) i) w base-positive low s)
 
   -- the answer is what the sequence has come to in its last round
@@ -53,7 +53,7 @@ module _ (bytes : List ℕ) (right : TableRight bytes) (i : ℕ) (h : i < taskCo
   followed start =
       sym
       (bothStarts .answers start (baseOf (tableOf bytes) i) (loadsOf (tasksOf bytes) i)
-      (taskOf (tasksOf bytes) i .latest) (taskOf (tasksOf bytes) i .deadline) base-positive (periods-of bytes (right .records) i h))
+      (taskOf (tasksOf bytes) i .latest) (taskOf (tasksOf bytes) i .deadline) base-positive (periods-of bytes (right .records) i))
 
   fewer : Fewer (roundsOf EveryCost (tableOf bytes) i) (roundsOf OwnCost (tableOf bytes) i)
   unfolding roundsOf
@@ -62,7 +62,7 @@ module _ (bytes : List ℕ) (right : TableRight bytes) (i : ℕ) (h : i < taskCo
       let loads = loadsOf (tasksOf bytes) i in
       let late = taskOf (tasksOf bytes) i .latest in
       let due = taskOf (tasksOf bytes) i .deadline in
-      let periods = periods-of bytes (right .records) i h in
+      let periods = periods-of bytes (right .records) i in
       (bothStarts .fewer base loads late due base-positive periods, bothStarts .oneMore base loads late due base-positive periods)
 
 module _ (bytes answers rounds : List ℕ) where

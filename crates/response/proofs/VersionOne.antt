@@ -1,17 +1,19 @@
 -- Version 1 tables keep their answers and rounds.
 -- Assumes nothing.
-use Prim.Native.Nat.{ℕ}
+use Prim.Native.Nat.{ℕ, suc, _<_}
 use native.Mathlib.Omega.{arith}
 use native.Mathlib.Nat.{add-zero}
 use mathlib.Core.Path.{_≡_, refl, sym, _∙_, ap, subst}
 use mathlib.Core.Logic.{inl}
 use mathlib.Core.List.{List}
 use Rattle.model.specs.Lists.{tabulate}
-use Rattle.model.specs.Tables.{Task, Table, Load, taskOf, loadOf, loadsOf, moreUrgent}
+use Rattle.model.specs.Tables.{Task, Table, Load, taskOf, loadOf, loadsOf, Alone, Falling, moreUrgent}
+use Rattle.model.proofs.Loads.{alone-loads, falling-alone}
 use Rattle.model.proofs.Keep.{map-keep-same}
 use Rattle.model.proofs.Tasks.{same-task, same-row}
 use Rattle.tables.specs.declared.layout.Layout.{Layout}
-use Rattle.tables.specs.Layout.{byteAt, versionOf, versionOne, layoutFor, layoutOf, taskCount, rowCount, lengthFor, recordStart, recordFrom, taskAt, rowStart, rowFrom, rowAt, tableOf, periodIn, deadlineIn, earliestIn}
+use Rattle.tables.specs.Layout.{byteAt, versionOf, versionOne, layoutFor, layoutOf, taskCount, rowCount, lengthFor, recordStart, recordFrom, taskAt, rowStart, rowFrom, rowAt, tasksOf, tableOf, priorityIn, periodIn, deadlineIn, earliestIn}
+use Rattle.tables.proofs.LayoutLaws.{priority-at, tasks-count}
 use Rattle.tables.specs.Fields.{taskCountField, rowCountField, periodField, costField, deadlineField, earliestField, latestField, priorityField, placeField, semaphoreField, longestField, orderField}
 use Rattle.tables.specs.Meaning.{Within, CountsRight, RecordRight, RowRight, TableRight}
 use Rattle.tables.proofs.MeaningLaws.{onePeriod}
@@ -57,8 +59,8 @@ module _ (bytes : List ℕ) (one : versionOf bytes ≡ 1) where
   no-earliest : (i : ℕ) → earliestIn bytes i ≡ 0
   no-earliest i = ap (λ (t : Task). t .earliest) (task-one i)
 
-  rules-hold : TableRight bytes → Rules bytes (taskAt bytes) (rowAt bytes)
-  rules-hold t =
+  rules-hold : Falling (tasksOf bytes) → TableRight bytes → Rules bytes (taskAt bytes) (rowAt bytes)
+  rules-hold falling t =
       record {
         longEnough = t .head .longEnough;
         tasks = subst (λ (l : Layout). Within 1 (l .most) (taskCount bytes)) layout-is (t .head .counts taskCountField);
@@ -74,7 +76,15 @@ module _ (bytes : List ℕ) (one : versionOf bytes ≡ 1) where
                   subst (λ (most : ℕ). Within 1 most (deadlineIn bytes i)) (onePeriod (periodIn bytes i) (right periodField)) (right deadlineField);
               jitter = record { low = omega arith; high = right latestField .high };
               positive = right priorityField .positive;
-              falls = right priorityField .falls;
+              falls = λ before e.
+                  let next : suc before < taskCount bytes = omega arith in
+                  omega (
+                    arith,
+                    falling before (omega (arith, tasks-count bytes)),
+                    priority-at bytes (suc before) next,
+                    priority-at bytes before (omega arith),
+                    ap (priorityIn bytes) e,
+                  );
             };
         sections = λ k h.
             let right = t .rows k h in
@@ -110,7 +120,8 @@ module _ (bytes : List ℕ) (one : versionOf bytes ≡ 1) where
           subst (λ (most : ℕ). Within 1 most (deadlineIn bytes i)) (sym (onePeriod (periodIn bytes i) (rules .period))) (rules .deadline)
       record-holds i rules earliestField = record { low = omega arith; high = omega (arith, no-earliest i) }
       record-holds i rules latestField = record { low = omega (arith, no-earliest i); high = rules .jitter .high }
-      record-holds i rules priorityField = record { positive = rules .positive; falls = rules .falls }
+      record-holds i rules priorityField =
+          record { positive = rules .positive; notRising = λ before e. omega (arith, rules .falls before e) }
 
       row-holds : (k : ℕ) → RowRules (taskCount bytes) (taskAt bytes) (rowAt bytes) k → RowRight bytes k
       row-holds k rules placeField = rules .place
@@ -121,42 +132,47 @@ module _ (bytes : List ℕ) (one : versionOf bytes ≡ 1) where
   rules-same : Rules bytes (taskAt bytes) (rowAt bytes) ≡ Rules bytes (taskOne bytes) (rowOne bytes)
   rules-same = λ j. Rules bytes (tasks-one j) (rows-one j)
 
--- where no task has an earliest delay, the difference is the latest
-loads-one : (bytes : List ℕ) (i : ℕ) → loadsOf (tableOne bytes .tasks) i ≡ jitterLoads (tableOne bytes) i
-loads-one bytes i =
-    map-keep-same (moreUrgent (taskOf (tableOne bytes .tasks) i .priority)) loadOf jitterLoad (taskOne bytes) (taskCount bytes)
-    (λ k. same-load (loadOf (taskOne bytes k)) (jitterLoad (taskOne bytes k)) refl refl (omega arith))
+module _ (bytes : List ℕ) (i : ℕ) (alone : Alone (tableOne bytes .tasks) i) where
+  -- where no task has an earliest delay, the difference is the latest
+  loads-one : loadsOf (tableOne bytes .tasks) i ≡ jitterLoads (tableOne bytes) i
+  loads-one =
+      alone-loads (tableOne bytes .tasks) i alone
+      ∙ map-keep-same (moreUrgent (taskOf (tableOne bytes .tasks) i .priority)) loadOf jitterLoad (taskOne bytes) (taskCount bytes)
+      (λ k. same-load (loadOf (taskOne bytes k)) (jitterLoad (taskOne bytes k)) refl refl (omega arith))
 
-answer-one : (bytes : List ℕ) (i : ℕ) → answerOf (tableOne bytes) i ≡ answerOne (tableOne bytes) i
-unfolding answerOf
-answer-one bytes i =
-    ap (λ (ls : List Load). answer (baseOf (tableOne bytes) i) ls (jitterOf (tableOne bytes) i) (taskOf (tableOne bytes .tasks) i .deadline))
-    (loads-one bytes i)
+  answer-one : answerOf (tableOne bytes) i ≡ answerOne (tableOne bytes) i
+  unfolding answerOf
+  answer-one =
+      ap (λ (ls : List Load). answer (baseOf (tableOne bytes) i) ls (jitterOf (tableOne bytes) i) (taskOf (tableOne bytes .tasks) i .deadline))
+      loads-one
 
-rounds-one : (start : Start) (bytes : List ℕ) (i : ℕ) → roundsOf start (tableOne bytes) i ≡ roundsOne start (tableOne bytes) i
-unfolding roundsOf
-rounds-one start bytes i =
-    let base = baseOf (tableOne bytes) i in
-    ap
-    (λ (ls : List Load).
-    rounds base ls (startFrom start base ls) (jitterOf (tableOne bytes) i) (taskOf (tableOne bytes .tasks) i .deadline))
-    (loads-one bytes i)
+  rounds-one : (start : Start) → roundsOf start (tableOne bytes) i ≡ roundsOne start (tableOne bytes) i
+  unfolding roundsOf
+  rounds-one start =
+      let base = baseOf (tableOne bytes) i in
+      ap
+      (λ (ls : List Load).
+      rounds base ls (startFrom start base ls) (jitterOf (tableOne bytes) i) (taskOf (tableOne bytes .tasks) i .deadline))
+      loads-one
 
 pub versionOneKept : VersionOneKept
 versionOneKept =
     record {
       reads = table-one;
       accepts = λ bytes one rules. right-holds bytes one (subst (λ (A : Type 0). A) (sym (rules-same bytes one)) rules);
-      refuses = λ bytes one right. subst (λ (A : Type 0). A) (rules-same bytes one) (rules-hold bytes one right);
-      keeps = λ start lent result o accepted one i h.
+      refuses = λ bytes one falling right. subst (λ (A : Type 0). A) (rules-same bytes one) (rules-hold bytes one falling right);
+      keeps = λ start lent result o accepted one falling i h.
+          let alone : Alone (tableOne (lent .bytes) .tasks) i =
+          subst (λ (t : Table). Alone (t .tasks) i) (table-one (lent .bytes) one)
+          (falling-alone (tasksOf (lent .bytes)) falling i (omega (arith, tasks-count (lent .bytes)))) in
           record {
             answerKept =
                 answer-word start lent result o accepted i h
                 ∙ ap (λ (t : Table). answerOf t i) (table-one (lent .bytes) one)
-                ∙ answer-one (lent .bytes) i;
+                ∙ answer-one (lent .bytes) i alone;
             roundsKept =
                 rounds-word start lent result o accepted i h
                 ∙ ap (λ (t : Table). roundsOf start t i) (table-one (lent .bytes) one)
-                ∙ rounds-one start (lent .bytes) i;
+                ∙ rounds-one (lent .bytes) i alone start;
           };
     }

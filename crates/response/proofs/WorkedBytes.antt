@@ -6,7 +6,6 @@ use mathlib.Core.Path.{_≡_, refl, _∙_, ap}
 use mathlib.Core.Bool.{Bool, true, false}
 use mathlib.Core.List.{List, [], _∷_}
 use lib.Dec.{eqb, leb}
-use lib.ListN.{length}
 use borrow.Author.Tests.{eqb-true, leb-true}
 use Rattle.model.specs.Choice.{both}
 use Rattle.model.specs.Lists.{tabulate, wordOf}
@@ -28,7 +27,7 @@ use Rattle.encoding.proofs.ByteLaws.{are-none, are-more}
 use Rattle.response.specs.Analysis.{answerOf, roundsOf}
 use Rattle.response.specs.Outcome.{lending}
 use Rattle.response.specs.Statements.{Accepted}
-use Rattle.response.specs.Worked.{Said, nothing, says, Worked, workedTable, workedTables, Gives, WorkedRight, EachRight, WorkedTablesRight, versionsOf, WorkedBytes, EachVersion, EachInBytes, WorkedTablesInBytes}
+use Rattle.response.specs.Worked.{Said, nothing, says, Worked, workedTable, tasksIn, workedTables, Gives, WorkedRight, EachRight, WorkedTablesRight, versionsOf, WorkedBytes, EachVersion, EachInBytes, WorkedTablesInBytes}
 use Rattle.response.proofs.Demands.{answer-word, rounds-word}
 use Rattle.response.proofs.WorkedTables.{sameBy, same-by, workedTablesRight}
 
@@ -85,12 +84,12 @@ all-bytes (x ∷ xs) p =
     let b = both-true (leb x 255) (allBytes xs) p in
     are-more x xs (leb-true x 255 (b .0)) (all-bytes xs (b .1))
 
--- the test of one table in one version: its numbers are bytes, it is accepted, has as many tasks as entries, and is read back
+-- the test of one table in one version: its numbers are bytes, it is accepted, has as many tasks, and is read back
 test : Worked → ℕ → Bool
 test w version =
     both (allBytes (encode version (workedTable w)))
-    (both (isClean (tableCheck (encode version (workedTable w)) (length (w .entries)) (length (w .entries))))
-    (both (eqb (taskCount (encode version (workedTable w))) (length (w .entries)))
+    (both (isClean (tableCheck (encode version (workedTable w)) (tasksIn w) (tasksIn w)))
+    (both (eqb (taskCount (encode version (workedTable w))) (tasksIn w))
     (sameTable (tableOf (encode version (workedTable w))) (workedTable w))))
 
 clean-is : (c : Check) → isClean c ≡ true → c ≡ check.Clean
@@ -102,7 +101,7 @@ module _ (w : Worked) (version : ℕ) where
   bytes = encode version (workedTable w)
 
   abbrev n : ℕ
-  n = length (w .entries)
+  n = tasksIn w
 
   -- what the test says is what is wanted
   worked-bytes : WorkedRight w → AreBytes bytes → tableCheck bytes n n ≡ check.Clean → taskCount bytes ≡ n → tableOf bytes ≡ workedTable w → WorkedBytes w version

@@ -5,9 +5,8 @@ use mathlib.Core.Path.{_≡_, refl}
 use mathlib.Core.Bool.{Bool, true, false}
 use mathlib.Core.List.{List, [], _∷_}
 use lib.Dec.{eqb}
-use lib.ListN.{length}
 use Rattle.model.specs.Choice.{both}
-use Rattle.model.specs.Lists.{tabulate, keep, sumOf, largestOf}
+use Rattle.model.specs.Lists.{tabulate, gather, sumOf, largestOf}
 use Rattle.model.specs.Search.{firstFrom}
 use Rattle.model.proofs.Tests.{both-true, clash}
 use Rattle.equation.specs.Demand.{demand}
@@ -17,7 +16,7 @@ use borrow.Author.Tests.{eqb-true}
 use Rattle.equation.specs.declared.Start.{Start}
 use Rattle.equation.specs.declared.Start.the-variants.{EveryCost, OwnCost}
 use Rattle.response.specs.Analysis.{answerOf, roundsOf}
-use Rattle.response.specs.Worked.{Said, nothing, says, Worked, workedTable, workedTables, Gives, WorkedRight, EachRight, WorkedTablesRight}
+use Rattle.response.specs.Worked.{Said, nothing, says, Worked, workedTable, tasksIn, workedTables, Gives, WorkedRight, EachRight, WorkedTablesRight}
 
 -- are two lists the same, element by element?
 unfoldable pub sameBy : {A : Type 0} → (A → A → Bool) → List A → List A → Bool
@@ -45,19 +44,19 @@ gives-means f n nothing p = tt
 gives-means f n (says words) p = same-by eqb eqb-true (tabulate f n) words p
 
 rightFrom : Worked → Start → Bool
-rightFrom w start = gives (roundsOf start (workedTable w)) (length (w .entries)) (w .rounds start)
+rightFrom w start = gives (roundsOf start (workedTable w)) (tasksIn w) (w .rounds start)
 
 right : Worked → Bool
 right w =
-    both (gives (blockingOf (workedTable w)) (length (w .entries)) (w .blocking))
-    (both (gives (answerOf (workedTable w)) (length (w .entries)) (w .answers))
+    both (gives (blockingOf (workedTable w)) (tasksIn w) (w .blocking))
+    (both (gives (answerOf (workedTable w)) (tasksIn w) (w .answers))
     (both (rightFrom w EveryCost) (rightFrom w OwnCost)))
 
 right-means : (w : Worked) → right w ≡ true → WorkedRight w
 unfolding right rightFrom
 right-means w p =
-    let a = both-true (gives (blockingOf (workedTable w)) (length (w .entries)) (w .blocking)) _ p in
-    let b = both-true (gives (answerOf (workedTable w)) (length (w .entries)) (w .answers)) _ (a .1) in
+    let a = both-true (gives (blockingOf (workedTable w)) (tasksIn w) (w .blocking)) _ p in
+    let b = both-true (gives (answerOf (workedTable w)) (tasksIn w) (w .answers)) _ (a .1) in
     let c = both-true (rightFrom w EveryCost) (rightFrom w OwnCost) (b .1) in
     record {
       blockingSaid = gives-means _ _ _ (a .0);
@@ -66,7 +65,7 @@ right-means w p =
     }
   where
     from : rightFrom w EveryCost ≡ true → rightFrom w OwnCost ≡ true →
-        (start : Start) → Gives (roundsOf start (workedTable w)) (length (w .entries)) (w .rounds start)
+        (start : Start) → Gives (roundsOf start (workedTable w)) (tasksIn w) (w .rounds start)
     from every own EveryCost = gives-means _ _ _ every
     from every own OwnCost = gives-means _ _ _ own
 
@@ -82,7 +81,7 @@ each-right (w ∷ ws) p =
     (right-means w (b .0), each-right ws (b .1))
 
 computed : allRight workedTables ≡ true
-unfolding allRight right rightFrom gives sameBy workedTables tabulate keep sumOf largestOf firstFrom demand term ceiling blockingOf answerOf roundsOf
+unfolding allRight right rightFrom gives sameBy workedTables tabulate gather sumOf largestOf firstFrom demand term ceiling blockingOf answerOf roundsOf
 computed = refl
 
 pub workedTablesRight : WorkedTablesRight

@@ -1,5 +1,6 @@
 -- What the analysis answers for each task of a table (SPECIFICATION 4.3 and 5; document 01, "The equation"; document 02, L4: the answer
--- adds the latest delay, and "every test against the deadline and the bound on rounds use the latest").
+-- adds the latest delay, and "every test against the deadline and the bound on rounds use the latest"; L6: `loadsOf` are the loads of every
+-- other task of equal or greater priority).
 -- Assumes nothing.
 use Prim.Native.Nat.{ℕ, _+_}
 use Rattle.model.specs.Tables.{Table, taskOf, loadsOf}
@@ -18,8 +19,8 @@ unfoldable pub answerOf : Table → ℕ → ℕ
 answerOf table i =
     answer (baseOf table i) (loadsOf (table .tasks) i) (taskOf (table .tasks) i .latest) (taskOf (table .tasks) i .deadline)
 
--- its x0: "the task's cost and blocking plus one cost of every more urgent task", or document 01's (SPECIFICATION 5.1;
--- document 02, L5)
+-- its x0: the task's cost and blocking plus one cost of every task that interferes with it, or document 01's (SPECIFICATION 5.1;
+-- document 02, L5 and L6)
 abbrev pub startOf : Start → Table → ℕ → ℕ
 startOf start table i = startFrom start (baseOf table i) (loadsOf (table .tasks) i)
 

@@ -4,5 +4,6 @@ pub mod Outcome
 pub mod Packing
 pub mod Statements
 pub mod Starts
+pub mod Ties
 pub mod VersionOne
 pub mod Worked

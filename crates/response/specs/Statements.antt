@@ -7,7 +7,7 @@ use mathlib.Core.Path.{_≡_}
 use mathlib.Core.Logic.{_⊎_}
 use lib.ListN.{length}
 use Rattle.model.specs.Lists.{wordOf}
-use Rattle.model.specs.Tables.{Table, taskOf, loadsOf}
+use Rattle.model.specs.Tables.{Table, taskOf, loadsOf, Alone, Falling}
 use Rattle.tables.specs.declared.Refusal.{Refusal}
 use Rattle.tables.specs.Layout.{taskCount, rowCount, tasksOf, tableOf}
 use Rattle.tables.specs.Meaning.{TableRight, RoomFor}
@@ -16,7 +16,7 @@ use Rattle.equation.specs.Laws.{IsSmallest}
 use Rattle.equation.specs.Sequence.{term}
 use Rattle.equation.specs.declared.Start.{Start}
 use Rattle.runs.specs.Jobs.{NoDelay}
-use Rattle.runs.specs.Statement.{Answers}
+use Rattle.runs.specs.Statement.{NoneExceeds, Answers}
 use Rattle.answering.specs.declared.Verdict.{Verdict}
 use Rattle.answering.specs.declared.Verdict.the-variants.{Refused, Schedulable, Late}
 use Rattle.response.specs.Analysis.{baseOf, startOf}
@@ -51,8 +51,8 @@ pub record Demand1 : Type 0 where
       ¬ (result .verdict ≡ Refused refusal)
 
 -- R is "w + J_i if such a w exists and w + J_i ≤ D_i; else 0", where w is "the smallest whole number of at least 1 with demand(i, w) = w".
--- For J_i stands the latest delay, and in the demand of a more urgent task the latest minus the earliest (SPECIFICATION 4.2 and
--- 4.3; document 02, L4).
+-- For J_i stands the latest delay, and in the demand of a task that interferes the latest minus the earliest (SPECIFICATION 4.2 and
+-- 4.3; document 02, L4 and L6).
 pub record AnswerRight (table : Table) (i R : ℕ) : Type 0 where
   pub answered : 1 ≤ R →
       (w : ℕ) × IsSmallest (baseOf table i) (loadsOf (table .tasks) i) w × (R ≡ w + taskOf (table .tasks) i .latest)
@@ -109,8 +109,16 @@ NoSecondAnswer = (start : Start) (lent : Call) (result other : Left) → Outcome
 
 -- Demand 3 (SPECIFICATION 8.3): where no task has a delay and there is no row, the word that is left, from either start, is right about
 -- every legal run.
-abbrev pub Demand3 : Type 0
-Demand3 =
-    (start : Start) (lent : Call) (result : Left) → Outcome start lent result → Accepted lent →
-    NoDelay (tasksOf (lent .bytes)) → rowCount (lent .bytes) ≡ 0 →
-    (i : ℕ) → i < taskCount (lent .bytes) → Answers (tasksOf (lent .bytes)) i (wordOf (result .answers) i)
+pub record Demand3 : Type 0 where
+  -- "For tables with ties demand 3 keeps only its first half: no job exceeds R." (document 02, L6): it holds for every task
+  pub firstHalf : (start : Start) (lent : Call) (result : Left) → Outcome start lent result → Accepted lent →
+      NoDelay (tasksOf (lent .bytes)) → rowCount (lent .bytes) ≡ 0 →
+      (i : ℕ) → i < taskCount (lent .bytes) → NoneExceeds (tasksOf (lent .bytes)) i (wordOf (result .answers) i)
+  -- both halves for every task whose priority no other task has, whatever ties there are among the others
+  pub bothHalves : (start : Start) (lent : Call) (result : Left) → Outcome start lent result → Accepted lent →
+      NoDelay (tasksOf (lent .bytes)) → rowCount (lent .bytes) ≡ 0 →
+      (i : ℕ) → i < taskCount (lent .bytes) → Alone (tasksOf (lent .bytes)) i → Answers (tasksOf (lent .bytes)) i (wordOf (result .answers) i)
+  -- so, for a table without ties, both halves for all tasks: document 01's demand 3
+  pub noTies : (start : Start) (lent : Call) (result : Left) → Outcome start lent result → Accepted lent →
+      NoDelay (tasksOf (lent .bytes)) → rowCount (lent .bytes) ≡ 0 → Falling (tasksOf (lent .bytes)) →
+      (i : ℕ) → i < taskCount (lent .bytes) → Answers (tasksOf (lent .bytes)) i (wordOf (result .answers) i)

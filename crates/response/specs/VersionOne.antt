@@ -1,13 +1,14 @@
 -- That version 1 tables keep their answers and rounds (SPECIFICATION 13.4; document 02, L4): document 01's bytes and its equation, with J
--- in both uses, as document 01 writes them, beside what `analyse_from` leaves. The proof is in proofs/VersionOne.antt.
+-- in both uses, as document 01 writes them, beside what `analyse_from` leaves. Document 01's tables have strictly falling priorities; those
+-- of version 1 that repeat one are new with document 02's L6. The proof is in proofs/VersionOne.antt.
 -- Assumes nothing.
 use Prim.Native.Nat.{ℕ, suc, _+_, _*_, _≤_, _<_}
 use mathlib.Core.Path.{_≡_}
 use mathlib.Core.List.{List, map}
 use lib.ListN.{length}
 use Rattle.model.specs.Lists.{tabulate, keep, wordOf}
-use Rattle.model.specs.Tables.{Task, Row, Table, Load, taskOf, moreUrgent}
-use Rattle.tables.specs.Layout.{byteAt, wordAt, versionOf, statedLength, taskCount, rowCount, tableOf}
+use Rattle.model.specs.Tables.{Task, Row, Table, Load, taskOf, moreUrgent, Falling}
+use Rattle.tables.specs.Layout.{byteAt, wordAt, versionOf, statedLength, taskCount, rowCount, tasksOf, tableOf}
 use Rattle.tables.specs.Meaning.{Within, RowsRise, TableRight}
 use Rattle.equation.specs.Answer.{answer}
 use Rattle.equation.specs.Sequence.{rounds}
@@ -109,9 +110,9 @@ pub record KeptAt (start : Start) (bytes : List ℕ) (result : Left) (i : ℕ) :
 pub record VersionOneKept : Type 0 where
   -- "Version 1 tables read with earliest 0", for all bytes of version 1
   pub reads : (bytes : List ℕ) → versionOf bytes ≡ 1 → tableOf bytes ≡ tableOne bytes
-  -- document 01's rules hold for them and no others: what was accepted is, and what was refused is
+  -- document 01's rules hold for them and, where priorities strictly fall, for no others: what was accepted is, and what was refused is
   pub accepts : (bytes : List ℕ) → versionOf bytes ≡ 1 → RightOne bytes → TableRight bytes
-  pub refuses : (bytes : List ℕ) → versionOf bytes ≡ 1 → TableRight bytes → RightOne bytes
+  pub refuses : (bytes : List ℕ) → versionOf bytes ≡ 1 → Falling (tasksOf bytes) → TableRight bytes → RightOne bytes
   -- "and keep their answers", and their rounds
   pub keeps : (start : Start) (lent : Call) (result : Left) → Outcome start lent result → Accepted lent → versionOf (lent .bytes) ≡ 1 →
-      (i : ℕ) → i < taskCount (lent .bytes) → KeptAt start (lent .bytes) result i
+      Falling (tasksOf (lent .bytes)) → (i : ℕ) → i < taskCount (lent .bytes) → KeptAt start (lent .bytes) result i

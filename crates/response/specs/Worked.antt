@@ -1,5 +1,5 @@
--- The worked tables that are marked * (SPECIFICATION 12; document 01, "Worked tables", and document 02, L4 and L5), as rows of one list
--- under one statement.
+-- The worked tables that are marked * (SPECIFICATION 12; document 01, "Worked tables", and document 02, L4, L5 and L6), as rows of one
+-- list under one statement.
 -- Assumes nothing.
 use Prim.Native.Nat.{ℕ, suc, _≤_}
 use mathlib.Core.Path.{_≡_}
@@ -39,19 +39,22 @@ delayed period cost deadline earliest latest =
 abbrev pub row : ℕ → ℕ → ℕ → Row
 row place semaphore longest = record { place = place; semaphore = semaphore; longest = longest }
 
--- "Priorities fall down each list"
-abbrev pub prioritised : List Entry → List Task
-prioritised [] = []
-prioritised (e ∷ es) =
+-- an entry of that priority
+abbrev pub ranked : ℕ → Entry → Task
+ranked priority e =
     record {
-      priority = suc (length es);
+      priority = priority;
       period = e .period;
       cost = e .cost;
       deadline = e .deadline;
       earliest = e .earliest;
       latest = e .latest;
     }
-    ∷ prioritised es
+
+-- "Priorities fall down each list"
+abbrev pub prioritised : List Entry → List Task
+prioritised [] = []
+prioritised (e ∷ es) = ranked (suc (length es)) e ∷ prioritised es
 
 -- what the document says, where it says it
 pub data Said : Type 0 where
@@ -59,7 +62,7 @@ pub data Said : Type 0 where
   says : List ℕ → Said
 
 pub record Worked : Type 0 where
-  pub entries : List Entry
+  pub tasks : List Task
   pub rows : List Row
   pub blocking : Said
   pub answers : Said
@@ -75,14 +78,22 @@ bothCounted own every OwnCost = says own
 bothCounted own every EveryCost = says every
 
 abbrev pub plain : List Entry → List ℕ → Worked
-plain entries answers = record { entries = entries; rows = []; blocking = nothing; answers = says answers; rounds = uncounted }
+plain entries answers = record { tasks = prioritised entries; rows = []; blocking = nothing; answers = says answers; rounds = uncounted }
+
+-- with the priorities as they are given
+abbrev pub countedTasks : List Task → List ℕ → (own every : List ℕ) → Worked
+countedTasks tasks answers own every =
+    record { tasks = tasks; rows = []; blocking = nothing; answers = says answers; rounds = bothCounted own every }
 
 abbrev pub counted : List Entry → List ℕ → (own every : List ℕ) → Worked
-counted entries answers own every =
-    record { entries = entries; rows = []; blocking = nothing; answers = says answers; rounds = bothCounted own every }
+counted entries = countedTasks (prioritised entries)
 
 abbrev pub workedTable : Worked → Table
-workedTable w = record { tasks = prioritised (w .entries); rows = w .rows }
+workedTable w = record { tasks = w .tasks; rows = w .rows }
+
+-- how many tasks it has
+abbrev pub tasksIn : Worked → ℕ
+tasksIn w = length (w .tasks)
 
 unfoldable pub workedTables : List Worked
 workedTables =
@@ -98,8 +109,10 @@ workedTables =
     ∷ plain (entry 6 3 6 ∷ entry 12 8 12 ∷ []) (3 ∷ 0 ∷ [])
     ∷ counted (delayed 30 10 20 0 10 ∷ entry 1000 15 25 ∷ []) (20 ∷ 0 ∷ []) (1 ∷ 2 ∷ []) (1 ∷ 1 ∷ [])
     ∷ plain (delayed 30 10 20 10 10 ∷ entry 1000 15 25 ∷ []) (20 ∷ 25 ∷ [])
+    ∷ countedTasks (ranked 2 (entry 4 1 4) ∷ ranked 1 (entry 6 2 6) ∷ ranked 1 (entry 10 3 10) ∷ []) (1 ∷ 0 ∷ 10 ∷ []) (1 ∷ 2 ∷ 5 ∷ []) (1 ∷ 1 ∷ 4 ∷ [])
+    ∷ countedTasks (ranked 1 (entry 2 1 2) ∷ ranked 1 (entry 2 1 2) ∷ []) (2 ∷ 2 ∷ []) (2 ∷ 2 ∷ []) (1 ∷ 1 ∷ [])
     ∷ record {
-      entries = entry 10 2 5 ∷ entry 20 3 12 ∷ entry 40 10 40 ∷ entry 100 4 50 ∷ [];
+      tasks = prioritised (entry 10 2 5 ∷ entry 20 3 12 ∷ entry 40 10 40 ∷ entry 100 4 50 ∷ []);
       rows = row 1 1 1 ∷ row 1 2 1 ∷ row 2 2 5 ∷ row 3 1 2 ∷ [];
       blocking = says (0 ∷ 5 ∷ 2 ∷ 0 ∷ []);
       answers = says (2 ∷ 10 ∷ 19 ∷ 26 ∷ []);
@@ -113,9 +126,9 @@ Gives f n nothing = Unit {0}
 Gives f n (says words) = tabulate f n ≡ words
 
 pub record WorkedRight (w : Worked) : Type 0 where
-  pub blockingSaid : Gives (blockingOf (workedTable w)) (length (w .entries)) (w .blocking)
-  pub answersSaid : Gives (answerOf (workedTable w)) (length (w .entries)) (w .answers)
-  pub roundsSaid : (start : Start) → Gives (roundsOf start (workedTable w)) (length (w .entries)) (w .rounds start)
+  pub blockingSaid : Gives (blockingOf (workedTable w)) (tasksIn w) (w .blocking)
+  pub answersSaid : Gives (answerOf (workedTable w)) (tasksIn w) (w .answers)
+  pub roundsSaid : (start : Start) → Gives (roundsOf start (workedTable w)) (tasksIn w) (w .rounds start)
 
 abbrev pub EachRight : List Worked → Type 0
 EachRight [] = Unit {0}
@@ -125,13 +138,13 @@ EachRight (w ∷ ws) = WorkedRight w × EachRight ws
 unfoldable pub WorkedTablesRight : Type 0
 WorkedTablesRight = EachRight workedTables
 
--- J alone is enough where no entry has an earliest delay, so that both versions can hold the table; else version 2 can
-abbrev pub noEarliest : List Entry → Bool
+-- J alone is enough where no task has an earliest delay, so that both versions can hold the table; else version 2 can
+abbrev pub noEarliest : List Task → Bool
 noEarliest [] = true
-noEarliest (e ∷ es) = both (eqb (e .earliest) 0) (noEarliest es)
+noEarliest (t ∷ ts) = both (eqb (t .earliest) 0) (noEarliest ts)
 
 abbrev pub versionsOf : Worked → List ℕ
-versionsOf w = pick (noEarliest (w .entries)) (1 ∷ 2 ∷ []) (2 ∷ [])
+versionsOf w = pick (noEarliest (w .tasks)) (1 ∷ 2 ∷ []) (2 ∷ [])
 
 -- The table's bytes in a version are bytes, are accepted and read back as it, and what is left for them, from each start, is what is
 -- said.
@@ -141,9 +154,9 @@ pub record WorkedBytes (w : Worked) (version : ℕ) : Type 0 where
   pub readBack : tableOf (encode version (workedTable w)) ≡ workedTable w
   pub answered : (start : Start) (answers rounds : List ℕ) (result : Left) →
       Outcome start (lending (encode version (workedTable w)) answers rounds) result →
-      length (w .entries) ≤ length answers → length (w .entries) ≤ length rounds →
-      Gives (wordOf (result .answers)) (length (w .entries)) (w .answers)
-      × Gives (wordOf (result .rounds)) (length (w .entries)) (w .rounds start)
+      tasksIn w ≤ length answers → tasksIn w ≤ length rounds →
+      Gives (wordOf (result .answers)) (tasksIn w) (w .answers)
+      × Gives (wordOf (result .rounds)) (tasksIn w) (w .rounds start)
 
 abbrev pub EachVersion : Worked → List ℕ → Type 0
 EachVersion w [] = Unit {0}

@@ -103,16 +103,16 @@ fn answer(
 {
     let n = count(table[TASK_COUNT_AT]);
     let m = count(table[ROW_COUNT_AT]);
-    let priorities = &bytes[0..32];
+    // the priorities are the first bytes
     let places = &bytes[32..96];
     let semaphores = &bytes[96..160];
     let mut owners = [0u8; 64];
     let mut tops = [0u8; 64];
-    blocking::spans(priorities, places, semaphores, m, &mut owners, &mut tops);
+    blocking::spans(bytes, places, semaphores, m, &mut owners, &mut tops);
     // of the words: periods, costs, deadlines, spreads, latest delays; at the end the longest sections
     answer_all(
         start,
-        priorities,
+        bytes,
         &words[0..32],
         &words[32..64],
         &words[64..96],

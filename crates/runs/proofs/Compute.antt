@@ -4,14 +4,14 @@ use Prim.Native.Nat.{ℕ, zero, suc, _≤_, _<_}
 use native.Mathlib.Nat.{not-suc-le-zero, lt-suc-self}
 use native.Mathlib.Decide.{ℕ-discrete}
 use native.Mathlib.Omega.{arith}
-use mathlib.Core.Path.{_≡_, refl, subst, ap, _∙_}
+use mathlib.Core.Path.{_≡_, refl, subst, _∙_}
 use mathlib.Core.Logic.{_⊎_, inl, inr}
 use mathlib.Core.Bool.{true, false}
 use mathlib.Core.List.{List}
 use lib.ListN.{length}
 use borrow.Author.Tests.{le-leb, lt-ltb}
 use Rattle.model.specs.Lists.{sumOf}
-use Rattle.model.specs.Tables.{Task, taskOf}
+use Rattle.model.specs.Tables.{Task}
 use Rattle.model.proofs.Tests.{bool?, ltb?, leb?, eqb?, clash}
 use Rattle.runs.specs.Jobs.{Job, jobOf, taskFor}
 use Rattle.runs.specs.Schedule.{Service, idle, serves, Schedule, countFor, servedBefore, Ready, LegalSchedule}
@@ -22,24 +22,56 @@ use Rattle.runs.specs.Statement.{ScheduleExists}
 record NotBefore (tasks : List Task) (jobs : List Job) (k j : ℕ) : Type 0 where
   urgent : taskFor tasks jobs k .priority ≤ taskFor tasks jobs j .priority
   oldest : taskFor tasks jobs k .priority ≡ taskFor tasks jobs j .priority → jobOf jobs j .release ≤ jobOf jobs k .release
+  lowerPlace : taskFor tasks jobs k .priority ≡ taskFor tasks jobs j .priority → jobOf jobs k .release ≡ jobOf jobs j .release →
+      jobOf jobs j .place ≤ jobOf jobs k .place
 
 module _ (tasks : List Task) (jobs : List Job) where
+  -- no job goes before itself
+  not-itself : (j : ℕ) → NotBefore tasks jobs j j
+  not-itself j = record { urgent = omega arith; oldest = λ e. omega arith; lowerPlace = λ e f. omega arith }
+
   -- the test says which of two goes before the other; what does not go before the later one does not go before the earlier one
   before? : (a b : ℕ) →
       ((goesBefore tasks jobs a b ≡ true) × ((k : ℕ) → NotBefore tasks jobs k b → NotBefore tasks jobs k a))
       ⊎ ((goesBefore tasks jobs a b ≡ false) × NotBefore tasks jobs a b)
   before? a b =
       elim (ltb? (taskFor tasks jobs b .priority) (taskFor tasks jobs a .priority)) [
-        | inl u ↦ inl (rw (u .0) refl, λ k n. record { urgent = omega arith; oldest = λ e. absurd (omega arith) })
+        | inl u ↦
+            inl (
+              rw (u .0) refl,
+              λ k n. record { urgent = omega arith; oldest = λ e. absurd (omega arith); lowerPlace = λ e f. absurd (omega arith) },
+            )
         | inr u ↦ elim (eqb? (taskFor tasks jobs a .priority) (taskFor tasks jobs b .priority)) [
-          | inr v ↦ inr (rw (u .0, v .0) refl, record { urgent = u .1; oldest = λ e. absurd (v .1 e) })
+          | inr v ↦ inr (rw (u .0, v .0) refl, record { urgent = u .1; oldest = λ e. absurd (v .1 e); lowerPlace = λ e f. absurd (v .1 e) })
           | inl v ↦ elim (ltb? (jobOf jobs a .release) (jobOf jobs b .release)) [
             | inl w ↦
                 inl (
                   rw (u .0, v .0, w .0) refl,
-                  λ k n. record { urgent = omega arith; oldest = λ e. omega (arith, n .oldest (e ∙ v .1)) },
+                  λ k n.
+                      record {
+                        urgent = omega arith;
+                        oldest = λ e. omega (arith, n .oldest (e ∙ v .1));
+                        lowerPlace = λ e f. absurd (omega (arith, n .oldest (e ∙ v .1)));
+                      },
                 )
-            | inr w ↦ inr (rw (u .0, v .0, w .0) refl, record { urgent = u .1; oldest = λ e. w .1 })
+            | inr w ↦ elim (eqb? (jobOf jobs a .release) (jobOf jobs b .release)) [
+              | inr x ↦
+                  inr (rw (u .0, v .0, w .0, x .0) refl, record { urgent = u .1; oldest = λ e. w .1; lowerPlace = λ e f. absurd (x .1 f) })
+              | inl x ↦ elim (ltb? (jobOf jobs a .place) (jobOf jobs b .place)) [
+                | inl y ↦
+                    inl (
+                      rw (u .0, v .0, w .0, x .0, y .0) refl,
+                      λ k n.
+                          record {
+                            urgent = omega arith;
+                            oldest = λ e. omega (arith, n .oldest (e ∙ v .1));
+                            lowerPlace = λ e f. omega (arith, n .lowerPlace (e ∙ v .1) (f ∙ x .1));
+                          },
+                    )
+                | inr y ↦
+                    inr (rw (u .0, v .0, w .0, x .0, y .0) refl, record { urgent = u .1; oldest = λ e. w .1; lowerPlace = λ e f. y .1 })
+              ]
+            ]
           ]
         ]
       ]
@@ -77,7 +109,7 @@ module _ (tasks : List Task) (jobs : List Job) where
           isJob = lt-suc-self n;
           ready = p;
           first = λ k l r. elim (ℕ-discrete k n) [
-            | yes e ↦ rw e (record { urgent = omega arith; oldest = λ u. omega arith })
+            | yes e ↦ rw e (not-itself n)
             | no e ↦ absurd (b k (omega arith) r)
           ];
         }
@@ -87,7 +119,7 @@ module _ (tasks : List Task) (jobs : List Job) where
             isJob = lt-suc-self n;
             ready = p;
             first = λ k l r. elim (ℕ-discrete k n) [
-              | yes e ↦ rw e (record { urgent = omega arith; oldest = λ z. omega arith })
+              | yes e ↦ rw e (not-itself n)
               | no e ↦ u .1 k (b .first k (omega arith) r)
             ];
           })
@@ -146,8 +178,8 @@ module _ (tasks : List Task) (jobs : List Job) where
         ready = λ t j h e. let f = serving t j e in test-ready j t (f .isJob) (f .ready);
         busy = λ t k h r. busy t k r (s t) refl;
         urgent = λ t j k h e r. serving t j e .first k (r .isJob) (ready-test k t r) .urgent;
-        oldest = λ t j k h e r p.
-            serving t j e .first k (r .isJob) (ready-test k t r) .oldest (ap (λ (i : ℕ). taskOf tasks i .priority) p);
+        oldest = λ t j k h e r. serving t j e .first k (r .isJob) (ready-test k t r) .oldest;
+        lowerPlace = λ t j k h e r. serving t j e .first k (r .isJob) (ready-test k t r) .lowerPlace;
       }
 
 pub scheduleExists : ScheduleExists

@@ -13,7 +13,7 @@ use Rattle.model.specs.Lists.{sumOf, tabulate}
 use Rattle.model.specs.Tables.{Task, taskOf}
 use Rattle.runs.specs.Jobs.{jobOf, JobFits, JobsApart}
 use Rattle.runs.specs.Scheduler.{choose, past, scheduleOf}
-use Rattle.runs.specs.Examples.{Example, IsDrawn, preempted, three, queued, sporadic, empty, ExamplesDrawn}
+use Rattle.runs.specs.Examples.{Example, IsDrawn, preempted, three, queued, sporadic, tied, empty, ExamplesDrawn}
 
 -- what holds of each number below n, one number after the other
 abbrev Each : (ℕ → Type 0) → ℕ → Type 0
@@ -30,7 +30,6 @@ record TaskFits (tasks : List Task) (i : ℕ) : Type 0 where
   costLow : 1 ≤ taskOf tasks i .cost
   deadlineLow : 1 ≤ taskOf tasks i .deadline
   deadlineHigh : taskOf tasks i .deadline ≤ taskOf tasks i .period
-  fall : suc i < length tasks → taskOf tasks (suc i) .priority < taskOf tasks i .priority
 
 -- of job j
 abbrev Fits : Example → ℕ → Type 0
@@ -53,7 +52,6 @@ is-drawn e tasks jobs pairs computed =
             costLow = λ i l. omega (arith, task i l);
             deadlineLow = λ i l. omega (arith, task i l);
             deadlineHigh = λ i l. omega (arith, task i l);
-            fall = λ i l. omega (arith, task i (omega arith) .fall l);
           };
       legalJobs =
           record {
@@ -76,7 +74,10 @@ examplesDrawn = (
       is-drawn queued (search needs) (search needs) (search needs) refl,
       (
         is-drawn sporadic (search needs) (search needs) (search needs) refl,
-        (is-drawn empty (search needs) (search needs) (search needs) refl, tt),
+        (
+          is-drawn tied (search needs) (search needs) (search needs) refl,
+          (is-drawn empty (search needs) (search needs) (search needs) refl, tt),
+        ),
       ),
     ),
   ),

@@ -5,7 +5,6 @@ pub mod Served
 pub mod BusyWindow
 pub mod Loads
 pub mod Upper
-pub mod Lists
 pub mod Together
 pub mod Lower
 pub mod TickLaws
@@ -13,3 +12,4 @@ pub mod Compute
 pub mod Unique
 pub mod EquationRight
 pub mod Examples
+pub mod Ties

@@ -1,23 +1,23 @@
--- The lower half of demand 3: where all is released together, the first job of place i is finished at no tick before some f with
--- demand(i, f) ≤ f.
+-- The lower half of demand 3, for a task whose priority no other task has: where all is released together, its first job is finished at no
+-- tick before some f with demand(i, f) ≤ f.
 -- Assumes nothing.
 use Prim.Native.Nat.{ℕ, zero, suc, _≤_, _<_}
-use native.Mathlib.Nat.{le-trans}
+use native.Mathlib.Nat.{le-trans, le-antisymm}
 use native.Mathlib.Decide.{decLe}
 use native.Mathlib.Omega.{arith}
 use mathlib.Core.Path.{_≡_, subst}
 use mathlib.Core.List.{List}
 use lib.ListN.{length}
-use borrow.Author.Tests.{ltb-true}
-use Rattle.model.specs.Tables.{Task, taskOf, loadsOf}
+use borrow.Author.Tests.{leb-true}
+use Rattle.model.specs.Tables.{Task, taskOf, priorityOf, loadsOf, Alone}
 use Rattle.equation.specs.Demand.{demand}
 use Rattle.runs.specs.Jobs.{Job, jobOf, TasksFit, NoDelay}
 use Rattle.runs.specs.Schedule.{serves, Schedule, servedBefore, Finished, Ready, LegalSchedule}
 use Rattle.runs.specs.Synchronous.{synchronous, FirstJob}
-use Rattle.runs.proofs.Windows.{isBefore}
+use Rattle.runs.proofs.Windows.{ofPlaces}
 use Rattle.runs.proofs.Served.{served-grows, count-is}
 use Rattle.runs.proofs.BusyWindow.{Quiet, worked-slow, quiet-asked}
-use Rattle.runs.proofs.Loads.{not-later}
+use Rattle.runs.proofs.Loads.{asUrgent}
 use Rattle.runs.proofs.Together.{synchronous-legal, only-first, asked-demand}
 
 -- a finished job that needed something was served in some tick, and was finished after it
@@ -33,21 +33,24 @@ last-tick jobs s j (suc x) low done =
 
 module _ (tasks : List Task) (fit : TasksFit tasks) (ticks : ℕ) (s : Schedule)
     (law : LegalSchedule tasks ticks (synchronous tasks ticks) s) (i j : ℕ) (isTask : i < length tasks)
-    (first : FirstJob (synchronous tasks ticks) i j) where
+    (alone : Alone tasks i) (first : FirstJob (synchronous tasks ticks) i j) where
   abbrev jobs : List Job
   jobs = synchronous tasks ticks
 
-  -- where the first job of i is served, nothing more urgent is left; and up to the end of its period there is no other job of i
+  -- where the first job of i is served, nothing more urgent is left; no other task is as urgent; and up to the end of its period there is
+  -- no other job of i
   quiet-after : (t : ℕ) → t < ticks → t < taskOf tasks i .period → s t ≡ serves j → Finished jobs s j (suc t) →
-      Quiet (isBefore (suc i)) jobs s (suc t)
+      Quiet (ofPlaces (asUrgent tasks i)) jobs s (suc t)
   quiet-after t h short e done k l p r =
       elim (decLe (jobOf jobs k .need) (servedBefore s k t)) [
         | yes f ↦ le-trans f (served-grows s k t (suc t) (omega arith))
         | no f ↦
             let ready : Ready jobs s k t = record { isJob = l; released = omega arith; unfinished = f } in
-            let above : i ≤ jobOf jobs k .place =
-            not-later tasks fit i (jobOf jobs k .place) isTask (rw (first .isOwn) at (law .urgent t j k h e ready)) in
-            let own : jobOf jobs k .place ≡ i = omega (arith, ltb-true (jobOf jobs k .place) (suc i) p) in
+            let high : priorityOf tasks (jobOf jobs k .place) ≤ priorityOf tasks i = rw (first .isOwn) at (law .urgent t j k h e ready) in
+            let low : priorityOf tasks i ≤ priorityOf tasks (jobOf jobs k .place) =
+            leb-true (priorityOf tasks i) (priorityOf tasks (jobOf jobs k .place)) p in
+            let own : jobOf jobs k .place ≡ i =
+            alone (jobOf jobs k .place) (synchronous-legal tasks fit ticks .fits k l .hasTask) (le-antisymm high low) in
             subst (λ (n : ℕ). Finished jobs s n (suc t)) (only-first tasks fit ticks i j k first l own (omega arith)) done
       ]
 
@@ -65,7 +68,7 @@ module _ (tasks : List Task) (fit : TasksFit tasks) (ticks : ℕ) (s : Schedule)
         omega (
           arith,
           asked-demand tasks fit ticks f (omega arith) i isTask calm (omega arith),
-          quiet-asked (isBefore (suc i)) jobs s f (quiet-after (last .0) (omega arith) (omega arith) (last .2) (last .3)),
-          worked-slow (isBefore (suc i)) jobs s f,
+          quiet-asked (ofPlaces (asUrgent tasks i)) jobs s f (quiet-after (last .0) (omega arith) (omega arith) (last .2) (last .3)),
+          worked-slow (ofPlaces (asUrgent tasks i)) jobs s f,
         ),
       )

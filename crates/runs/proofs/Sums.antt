@@ -1,16 +1,19 @@
 -- Sums over the first numbers, and their link to sums over lists.
 -- Assumes nothing.
 use Prim.Native.Nat.{ℕ, zero, suc, _+_, _*_, _≤_, _<_}
-use native.Mathlib.Nat.{add-suc, mul-zero, mul-suc, mul-add, not-suc-le-zero, lt-suc-self, le-refl, le-of-suc-le-suc, add-zero}
+use native.Mathlib.Nat.{mul-zero, mul-suc, mul-add, not-suc-le-zero, lt-suc-self, le-refl}
 use native.Mathlib.Decide.{ℕ-discrete}
 use native.Mathlib.Omega.{arith}
 use mathlib.Core.Path.{_≡_, refl, sym, ap}
-use mathlib.Core.Logic.{_≢_}
+use mathlib.Core.Logic.{_≢_, inl, inr}
 use mathlib.Core.Bool.{Bool, true, false}
-use mathlib.Core.List.{List, [], _∷_, map}
+use mathlib.Core.List.{List, [], _∷_}
 use lib.ListN.{length, getD}
-use Rattle.model.specs.Lists.{sumOf, total, tabulate, keep}
-use Rattle.model.proofs.Lists.{sum-append}
+use Rattle.model.specs.Choice.{both, on}
+use Rattle.model.specs.Lists.{sumOf, total}
+use Rattle.model.specs.Tables.{isOther}
+use Rattle.model.proofs.Tests.{bool?}
+use Rattle.model.proofs.Loads.{other-own, other-is}
 
 pub total-mono : (f g : ℕ → ℕ) (n : ℕ) → ((k : ℕ) → k < n → f k ≤ g k) → total f n ≤ total g n
 unfolding total
@@ -37,6 +40,17 @@ unfolding total
 total-zero f zero h = refl
 total-zero f (suc n) h = omega (arith, total-zero f n (λ k l. h k (omega arith)), h n (lt-suc-self n))
 
+-- a sum of sums, either way round
+pub total-swap : (f : ℕ → ℕ → ℕ) (m n : ℕ) → total (λ j. total (f j) m) n ≡ total (λ p. total (λ j. f j p) n) m
+unfolding total
+total-swap f m zero = sym (total-zero (λ p. 0) m (λ p l. refl))
+total-swap f m (suc n) = omega (arith, total-swap f m n, total-add (λ p. total (λ j. f j p) n) (f n) m)
+
+-- a sum of which all counts or nothing
+pub total-on : (b : Bool) (f : ℕ → ℕ) (n : ℕ) → total (λ k. on b (f k)) n ≡ on b (total f n)
+total-on true f n = refl
+total-on false f n = total-zero (λ k. 0) n (λ k l. refl)
+
 -- a sum in which one summand alone counts
 pub total-point : (f : ℕ → ℕ) (p n : ℕ) → p < n → ((k : ℕ) → k < n → k ≢ p → f k ≡ 0) → total f n ≡ f p
 unfolding total
@@ -47,11 +61,29 @@ total-point f p (suc n) l h =
       | no e ↦ omega (arith, total-point f p n (omega arith) (λ k m d. h k (omega arith) d), h n (lt-suc-self n) e)
     ]
 
--- a part of a sum is at most the sum
-pub total-grows : (f : ℕ → ℕ) (m k : ℕ) → total f m ≤ total f (m + k)
+-- of two sums over what passes a test
+pub total-mono-on : (test : ℕ → Bool) (f g : ℕ → ℕ) (n : ℕ) → ((k : ℕ) → k < n → f k ≤ g k) →
+    total (λ k. on (test k) (f k)) n ≤ total (λ k. on (test k) (g k)) n
+total-mono-on test f g n h =
+    total-mono (λ k. on (test k) (f k)) (λ k. on (test k) (g k)) n
+    (λ k l. elim (bool? (test k)) [ inl p ↦ rw p (h k l) | inr p ↦ rw p (le-refl 0) ])
+
+-- what passes a test, number i apart from the others
+pub total-apart : (test : ℕ → Bool) (f : ℕ → ℕ) (i n : ℕ) → i < n →
+    total (λ p. on (test p) (f p)) n ≡ on (test i) (f i) + total (λ p. on (both (isOther i p) (test p)) (f p)) n
 unfolding total
-total-grows f m zero = rw add-zero (le-refl (total f m))
-total-grows f m (suc k) = rw add-suc (omega (arith, total-grows f m k))
+total-apart test f i zero l = absurd (not-suc-le-zero l)
+total-apart test f i (suc n) l =
+    elim (ℕ-discrete n i) [
+      | yes e ↦
+          rw (e, other-own i)
+          (omega (
+            arith,
+            total-same (λ p. on (test p) (f p)) (λ p. on (both (isOther i p) (test p)) (f p)) i
+                (λ p m. rw (other-is i p (omega arith)) refl),
+          ))
+      | no d ↦ rw (other-is i n d) (omega (arith, total-apart test f i n (omega arith)))
+    ]
 
 -- a sum whose first m summands are c each, and whose later ones are 0
 pub total-first : (c : ℕ) (f : ℕ → ℕ) (m n : ℕ) → m ≤ n → ((k : ℕ) → k < m → f k ≡ c) → ((k : ℕ) → m ≤ k → k < n → f k ≡ 0) →
@@ -111,26 +143,3 @@ module _ {A : Type 0} where
   unfolding sumOf total
   sum-total f d [] = refl
   sum-total f d (x ∷ xs) = rw total-front (ap (λ (n : ℕ). f x + n) (sum-total f d xs))
-
-  pub sum-tabulate : (f : A → ℕ) (g : ℕ → A) (n : ℕ) → sumOf f (tabulate g n) ≡ total (λ k. f (g k)) n
-  unfolding sumOf total tabulate
-  sum-tabulate f g zero = refl
-  sum-tabulate f g (suc n) = rw (sum-append, sum-tabulate f g n) (omega arith)
-
-  pub sum-map : {B : Type 0} (f : B → ℕ) (g : A → B) (xs : List A) → sumOf f (map g xs) ≡ sumOf (λ x. f (g x)) xs
-  unfolding sumOf
-  sum-map f g [] = refl
-  sum-map f g (x ∷ xs) = ap (λ (n : ℕ). f (g x) + n) (sum-map f g xs)
-
-  -- what a test keeps, where it passes at the first i elements and at no other
-  pub sum-keep : (f : A → ℕ) (test : A → Bool) (d : A) (xs : List A) (i : ℕ) → i ≤ length xs →
-      ((p : ℕ) → p < i → test (getD xs p d) ≡ true) → ((p : ℕ) → i ≤ p → p < length xs → test (getD xs p d) ≡ false) →
-      sumOf f (keep test xs) ≡ total (λ p. f (getD xs p d)) i
-  unfolding sumOf total keep
-  sum-keep f test d [] zero l passes fails = refl
-  sum-keep f test d [] (suc i) l passes fails = absurd (not-suc-le-zero l)
-  sum-keep f test d (x ∷ xs) zero l passes fails =
-      rw (fails 0 (le-refl 0) (omega arith)) (sum-keep f test d xs zero (omega arith) (λ p m. absurd (not-suc-le-zero m)) (λ p m n. fails (suc p) (omega arith) (omega arith)))
-  sum-keep f test d (x ∷ xs) (suc i) l passes fails =
-      rw (total-front, passes 0 (omega arith)) (ap (λ (n : ℕ). f x + n)
-      (sum-keep f test d xs i (le-of-suc-le-suc l) (λ p m. passes (suc p) (omega arith)) (λ p m n. fails (suc p) (omega arith) (omega arith))))

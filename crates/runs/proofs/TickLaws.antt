@@ -12,8 +12,9 @@ use lib.ListN.{length}
 use borrow.Author.Tests.{eqb-true, eq-eqb, ne-eqb, le-leb}
 use Rattle.model.specs.Choice.{on}
 use Rattle.model.specs.Lists.{total}
-use Rattle.model.specs.Tables.{Task, taskOf}
+use Rattle.model.specs.Tables.{Task, taskOf, Falling}
 use Rattle.model.proofs.Tests.{bool?, ltb?}
+use Rattle.model.proofs.Loads.{not-later}
 use Rattle.equation.specs.Rounding.{ceilDiv}
 use Rattle.equation.proofs.Laws.{roundingUp}
 use Rattle.runs.specs.Jobs.{Job, jobOf, TasksFit}
@@ -23,7 +24,7 @@ use Rattle.runs.proofs.Sums.{total-same, total-add}
 use Rattle.runs.proofs.Windows.{within, needOf, isOf}
 use Rattle.runs.proofs.Served.{ServesReady, served-most, served-none}
 use Rattle.runs.proofs.BusyWindow.{Quiet, asked, worked, workedOn, added, added-idle, added-serves, worked-next, quiet-asked, quiet-next, asked-quiet}
-use Rattle.runs.proofs.Loads.{shareOf, not-later}
+use Rattle.runs.proofs.Loads.{shareOf}
 use Rattle.runs.proofs.Together.{synchronous-legal, only-first, asked-place}
 
 -- what place p releases in tick t: its cost if a period begins, else 0
@@ -115,21 +116,6 @@ module _ (tasks : List Task) (fit : TasksFit tasks) (ticks : ℕ) (s : Schedule)
             (quiet-next (isOf p) jobs s t (λ k r y. none k r (eqb-true (jobOf jobs k .place) p y))),
       )
 
-  -- a tick serves a place that has work, and no place before it has any
-  pub work-serves : (t j : ℕ) → t < ticks → s t ≡ serves j →
-      (jobOf (synchronous tasks ticks) j .place < length tasks)
-      × (1 ≤ workLeft (synchronous tasks ticks) s t (jobOf (synchronous tasks ticks) j .place) + fresh tasks t (jobOf (synchronous tasks ticks) j .place))
-      × ((p : ℕ) → p < jobOf (synchronous tasks ticks) j .place → workLeft (synchronous tasks ticks) s t p + fresh tasks t p ≡ 0)
-  work-serves t j h e =
-      let place : ℕ = jobOf jobs j .place in
-      let isTask : place < length tasks = synchronous-legal tasks fit ticks .fits j (law .ready t j h e .isJob) .hasTask in
-      let served : (p : ℕ) → servedPlace jobs (s t) p ≡ on (eqb place p) 1 = λ p. ap (λ (v : Service). servedPlace jobs v p) e in (
-        isTask,
-        omega (arith, work-next t place h isTask, served place, ap (λ (b : Bool). on b 1) (eq-eqb place place refl)),
-        λ p l. work-unready t p h (omega arith) (served p ∙ ap (λ (b : Bool). on b 1) (ne-eqb place p (omega arith)))
-            (λ k r own. omega (arith, not-later tasks fit place p isTask (rw own at (law .urgent t j k h e r)))),
-      )
-
   -- in an idle tick no place has any
   pub work-idle : (t : ℕ) → t < ticks → s t ≡ idle → (p : ℕ) → p < length tasks →
       workLeft (synchronous tasks ticks) s t p + fresh tasks t p ≡ 0
@@ -149,3 +135,22 @@ module _ (tasks : List Task) (fit : TasksFit tasks) (ticks : ℕ) (s : Schedule)
         (λ k l y r. subst (λ (n : ℕ). Finished jobs s n x)
         (only-first tasks fit ticks i j k first l (eqb-true (jobOf jobs k .place) i y) (omega arith)) done),
   )
+
+-- where no priority is repeated
+module _ (tasks : List Task) (fit : TasksFit tasks) (falling : Falling tasks) (ticks : ℕ) (s : Schedule)
+    (law : LegalSchedule tasks ticks (synchronous tasks ticks) s) where
+  -- a tick serves a place that has work, and no place before it has any
+  pub work-serves : (t j : ℕ) → t < ticks → s t ≡ serves j →
+      (jobOf (synchronous tasks ticks) j .place < length tasks)
+      × (1 ≤ workLeft (synchronous tasks ticks) s t (jobOf (synchronous tasks ticks) j .place) + fresh tasks t (jobOf (synchronous tasks ticks) j .place))
+      × ((p : ℕ) → p < jobOf (synchronous tasks ticks) j .place → workLeft (synchronous tasks ticks) s t p + fresh tasks t p ≡ 0)
+  work-serves t j h e =
+      let jobs : List Job = synchronous tasks ticks in
+      let place : ℕ = jobOf jobs j .place in
+      let isTask : place < length tasks = synchronous-legal tasks fit ticks .fits j (law .ready t j h e .isJob) .hasTask in
+      let served : (p : ℕ) → servedPlace jobs (s t) p ≡ on (eqb place p) 1 = λ p. ap (λ (v : Service). servedPlace jobs v p) e in (
+        isTask,
+        omega (arith, work-next tasks fit ticks s law t place h isTask, served place, ap (λ (b : Bool). on b 1) (eq-eqb place place refl)),
+        λ p l. work-unready tasks fit ticks s law t p h (omega arith) (served p ∙ ap (λ (b : Bool). on b 1) (ne-eqb place p (omega arith)))
+            (λ k r own. omega (arith, not-later tasks falling place p isTask (rw own at (law .urgent t j k h e r)))),
+      )

@@ -2,33 +2,34 @@
 -- each f.
 -- Assumes nothing.
 use Prim.Native.Nat.{ℕ, zero, suc, _+_, _*_, _-_, _%_, _≤_, _<_}
-use native.Mathlib.Nat.{zero-mul, suc-mul, mul-comm, mul-sub, mul-mod-right, mul-le-mul-right, le-mul-of-pos-right, le-refl, le-dest, not-suc-le-zero, lt-of-not-le}
+use native.Mathlib.Nat.{zero-mul, suc-mul, mul-comm, mul-sub, mul-mod-right, mul-le-mul-right, le-mul-of-pos-right, le-refl, not-suc-le-zero, lt-of-not-le}
 use native.Mathlib.Decide.{decLt, ℕ-discrete}
 use native.Mathlib.Omega.{arith}
 use mathlib.Core.Path.{_≡_, refl, sym, _∙_, ap}
 use mathlib.Core.Logic.{_≢_, inl, inr}
 use mathlib.Core.Bool.{Bool}
 use mathlib.Core.List.{List, _++_}
-use lib.Dec.{eqb, ltb}
+use lib.Dec.{eqb}
 use lib.ListN.{length, length-append, List·getD-append}
 use lib.Seq.{getD-append-add}
-use borrow.Author.Tests.{lt-ltb, eq-eqb, ne-eqb}
+use borrow.Author.Tests.{le-leb, eq-eqb, ne-eqb}
 use Rattle.model.specs.Choice.{on}
 use Rattle.model.specs.Lists.{sumOf, total}
-use Rattle.model.specs.Tables.{Task, taskOf, loadsOf}
+use Rattle.model.specs.Tables.{Task, taskOf, priorityOf, loadsOf}
 use Rattle.model.proofs.Tests.{bool?, clash}
 use Rattle.model.proofs.Lists.{length-tabulate, getD-tabulate, sum-append}
+use Rattle.model.proofs.Append.{append-at, each-append}
 use Rattle.equation.specs.Rounding.{ceilDiv}
 use Rattle.equation.specs.Demand.{demand}
 use Rattle.equation.proofs.Laws.{roundingUp}
 use Rattle.equation.proofs.RoundingLaws.{positive}
 use Rattle.runs.specs.Jobs.{Job, noJob, jobOf, TasksFit, NoDelay, JobFits, JobsApart, LegalJobs}
 use Rattle.runs.specs.Synchronous.{jobAt, jobsAt, jobsBefore, synchronous, FirstJob, SynchronousIsRun}
-use Rattle.runs.proofs.Sums.{total-mono, total-zero, total-point, total-grows, total-first, sum-total, sum-tabulate}
-use Rattle.runs.proofs.Lists.{append-at, each-append}
-use Rattle.runs.proofs.Windows.{within, within-is, within?, needOf, isOf, isBefore}
+use Rattle.runs.proofs.Sums.{total-zero, total-point, total-apart, total-first, sum-total}
+use Rattle.model.proofs.Gather.{sum-tabulate}
+use Rattle.runs.proofs.Windows.{within, within-is, within?, needOf, isOf, ofPlaces}
 use Rattle.runs.proofs.BusyWindow.{asked}
-use Rattle.runs.proofs.Loads.{shareOf, demand-is}
+use Rattle.runs.proofs.Loads.{shareOf, asUrgent, demand-is}
 
 -- a job of a place before m, as the run asks for it
 record Fits (tasks : List Task) (ticks m : ℕ) (job : Job) : Type 0 where
@@ -176,12 +177,9 @@ module _ (tasks : List Task) (fit : TasksFit tasks) (ticks : ℕ) where
 
   -- a set of jobs that is a set of places
   module _ (test : ℕ → Bool) (f : ℕ) (short : f ≤ ticks) where
-    abbrev ofPlaces : Job → Bool
-    ofPlaces job = test (job .place)
-
     -- what one job has asked for before f
     abbrev asksOf : Job → ℕ
-    asksOf = within ofPlaces needOf 0 f
+    asksOf = within (ofPlaces test) needOf 0 f
 
     -- what place p has asked for before f, if it is of the set
     abbrev shareIn : ℕ → ℕ
@@ -196,8 +194,8 @@ module _ (tasks : List Task) (fit : TasksFit tasks) (ticks : ℕ) where
           | inl y ↦
               rw y (total-first (taskOf tasks p .cost) (λ k. asksOf (jobAt tasks p k)) (ceilDiv f period) (ceilDiv ticks period)
               (roundingUp .monotone f ticks period short)
-              (λ k l. within-is ofPlaces needOf 0 f (jobAt tasks p k) (record { isIn = y; late = omega arith; early = multiple-below p k f h l }))
-              (λ k l u. elim (within? ofPlaces needOf 0 f (jobAt tasks p k)) [
+              (λ k l. within-is (ofPlaces test) needOf 0 f (jobAt tasks p k) (record { isIn = y; late = omega arith; early = multiple-below p k f h l }))
+              (λ k l u. elim (within? (ofPlaces test) needOf 0 f (jobAt tasks p k)) [
                 | inl i ↦
                     absurd (omega (
                       arith,
@@ -209,7 +207,7 @@ module _ (tasks : List Task) (fit : TasksFit tasks) (ticks : ℕ) where
               ]))
           | inr n ↦
               rw n (total-zero (λ k. asksOf (jobAt tasks p k)) (ceilDiv ticks period)
-              (λ k l. elim (within? ofPlaces needOf 0 f (jobAt tasks p k)) [
+              (λ k l. elim (within? (ofPlaces test) needOf 0 f (jobAt tasks p k)) [
                 | inl i ↦ absurd (clash (test p) (i .isIn) n)
                 | inr z ↦ z
               ]))
@@ -223,7 +221,7 @@ module _ (tasks : List Task) (fit : TasksFit tasks) (ticks : ℕ) where
         rw (sum-append asksOf (jobsBefore tasks ticks m) (jobsAt tasks ticks m))
         (omega (arith, places-ask m (omega arith), place-asks m h))
 
-    asked-places : asked ofPlaces (synchronous tasks ticks) f ≡ total shareIn (length tasks)
+    asked-places : asked (ofPlaces test) (synchronous tasks ticks) f ≡ total shareIn (length tasks)
     asked-places = sym (sum-total asksOf noJob (synchronous tasks ticks)) ∙ places-ask (length tasks) (le-refl (length tasks))
 
   module _ (f : ℕ) (short : f ≤ ticks) (i : ℕ) (isTask : i < length tasks) where
@@ -234,25 +232,15 @@ module _ (tasks : List Task) (fit : TasksFit tasks) (ticks : ℕ) where
         ∙ total-point (λ p. on (eqb p i) (shareOf tasks f p)) i (length tasks) isTask (λ p l d. rw (ne-eqb p i d) refl)
         ∙ rw (eq-eqb i i refl) refl
 
-    -- and the places up to i have asked for demand(i, f) or more
+    -- and the places that are at least as urgent as i have asked for demand(i, f) or more
     pub asked-demand : NoDelay tasks → 1 ≤ f →
-        demand (taskOf tasks i .cost) (loadsOf tasks i) f ≤ asked (isBefore (suc i)) (synchronous tasks ticks) f
-    unfolding total
+        demand (taskOf tasks i .cost) (loadsOf tasks i) f ≤ asked (ofPlaces (asUrgent tasks i)) (synchronous tasks ticks) f
     asked-demand calm low =
-        let share : ℕ → ℕ = λ p. on (ltb p (suc i)) (shareOf tasks f p) in
-        let more = le-dest isTask in
         let rounded : 1 ≤ ceilDiv f (taskOf tasks i .period) = positive f (taskOf tasks i .period) (fit .periodLow i isTask) low in
-        let own : taskOf tasks i .cost ≤ share i =
-        rw (lt-ltb i (suc i) (omega arith)) (le-mul-of-pos-right (taskOf tasks i .cost) rounded) in
-        rw (demand-is tasks fit calm (taskOf tasks i .cost) i f isTask, asked-places (λ p. ltb p (suc i)) f short)
-        (omega (
-          arith,
-          own,
-          total-mono (shareOf tasks f) share i
-              (λ p l. rw (lt-ltb p (suc i) (omega arith)) (le-refl (shareOf tasks f p))),
-          total-grows share (suc i) (more .0),
-          ap (total share) (more .1),
-        ))
+        let own : taskOf tasks i .cost ≤ on (asUrgent tasks i i) (shareOf tasks f i) =
+        rw (le-leb (priorityOf tasks i) (priorityOf tasks i) (omega arith)) (le-mul-of-pos-right (taskOf tasks i .cost) rounded) in
+        rw (demand-is tasks calm (taskOf tasks i .cost) i f, asked-places (asUrgent tasks i) f short)
+        (omega (arith, own, total-apart (asUrgent tasks i) (shareOf tasks f) i (length tasks) isTask))
 
 pub synchronousIsRun : SynchronousIsRun
 synchronousIsRun tasks fit ticks =

@@ -11,7 +11,6 @@ use Rattle.model.specs.Tables.{Task}
 use Rattle.runs.specs.Jobs.{Job, jobOf, taskFor, TasksFit, LegalJobs}
 use Rattle.runs.specs.Schedule.{Service, idle, serves, Schedule, countFor, servedBefore, Ready, LegalSchedule}
 use Rattle.runs.specs.Statement.{OnlySchedule}
-use Rattle.runs.proofs.Loads.{not-later}
 
 -- schedules that agree before t have served the same before t
 served-same : (s other : Schedule) (j t : ℕ) → ((u : ℕ) → u < t → s u ≡ other u) → servedBefore s j t ≡ servedBefore other j t
@@ -26,15 +25,10 @@ module _ (tasks : List Task) (fit : TasksFit tasks) (ticks : ℕ) (jobs : List J
   ready-same s other t same j r =
       record { isJob = r .isJob; released = r .released; unfinished = omega (arith, served-same s other j t same) }
 
-  -- two jobs that tie are one
-  tie : (j k : ℕ) → j < length jobs → k < length jobs → taskFor tasks jobs j .priority ≡ taskFor tasks jobs k .priority →
-      (jobOf jobs j .place ≡ jobOf jobs k .place → jobOf jobs j .release ≡ jobOf jobs k .release) → j ≡ k
-  tie j k l m p r =
-      let place : jobOf jobs j .place ≡ jobOf jobs k .place =
-      le-antisymm
-      (not-later tasks fit (jobOf jobs j .place) (jobOf jobs k .place) (legal .fits j l .hasTask) (omega arith))
-      (not-later tasks fit (jobOf jobs k .place) (jobOf jobs j .place) (legal .fits k m .hasTask) (omega arith)) in
-      let release = r place in
+  -- two jobs of one place and one release are one
+  tie : (j k : ℕ) → j < length jobs → k < length jobs → jobOf jobs j .place ≡ jobOf jobs k .place →
+      jobOf jobs j .release ≡ jobOf jobs k .release → j ≡ k
+  tie j k l m place release =
       elim (ℕ-discrete j k) [
         | yes e ↦ e
         | no d ↦
@@ -58,8 +52,13 @@ module _ (tasks : List Task) (fit : TasksFit tasks) (ticks : ℕ) (jobs : List J
         let two : Ready jobs other k t = rule .ready t k h f in
         let there : Ready jobs other j t = ready-same s other t same j one in
         let here : Ready jobs s k t = ready-same other s t (λ u l. sym (same u l)) k two in
-        ap serves (tie j k (one .isJob) (two .isJob) (le-antisymm (rule .urgent t k j h f there) (law .urgent t j k h e here))
-        (λ p. le-antisymm (law .oldest t j k h e here (sym p)) (rule .oldest t k j h f there p)))
+        let priority : taskFor tasks jobs j .priority ≡ taskFor tasks jobs k .priority =
+        le-antisymm (rule .urgent t k j h f there) (law .urgent t j k h e here) in
+        let release : jobOf jobs j .release ≡ jobOf jobs k .release =
+        le-antisymm (law .oldest t j k h e here (sym priority)) (rule .oldest t k j h f there priority) in
+        let place : jobOf jobs j .place ≡ jobOf jobs k .place =
+        le-antisymm (law .lowerPlace t j k h e here (sym priority) (sym release)) (rule .lowerPlace t k j h f there priority release) in
+        ap serves (tie j k (one .isJob) (two .isJob) place release)
 
     agree-before : (t : ℕ) → t ≤ ticks → (u : ℕ) → u < t → s u ≡ other u
     agree-before zero h u l = absurd (not-suc-le-zero l)

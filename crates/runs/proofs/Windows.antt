@@ -1,20 +1,20 @@
 -- What a set of jobs weighs that is released in a window of ticks: windows put together, and sets put together.
 -- Assumes nothing.
-use Prim.Native.Nat.{ℕ, zero, suc, _+_, _≤_, _<_}
+use Prim.Native.Nat.{ℕ, _+_, _≤_, _<_}
 use native.Mathlib.Nat.{add-zero, zero-add}
 use native.Mathlib.Omega.{arith}
-use mathlib.Core.Path.{_≡_, refl, sym, _∙_}
+use mathlib.Core.Path.{_≡_, refl, sym, _∙_, ap}
 use mathlib.Core.Logic.{_⊎_, inl, inr}
 use mathlib.Core.Bool.{Bool, true}
 use mathlib.Core.List.{List}
 use lib.ListN.{length}
 use lib.Dec.{leb, ltb, eqb}
-use borrow.Author.Tests.{ltb-true, lt-ltb, lt-leb, le-leb, eq-eqb}
-use Rattle.model.specs.Choice.{pick, both}
+use borrow.Author.Tests.{lt-ltb, lt-leb, le-leb, eq-eqb}
+use Rattle.model.specs.Choice.{pick, both, on}
 use Rattle.model.specs.Lists.{total}
 use Rattle.model.proofs.Tests.{bool?, leb?, ltb?}
 use Rattle.runs.specs.Jobs.{Job, jobOf}
-use Rattle.runs.proofs.Sums.{total-mono, total-same, total-add, total-zero}
+use Rattle.runs.proofs.Sums.{total-mono, total-same, total-add, total-zero, total-apart, total-swap, total-on}
 
 -- a job's weight, if it is of the set and released in the ticks from `from` and before `to`; else 0
 unfoldable pub within : (Job → Bool) → (Job → ℕ) → ℕ → ℕ → Job → ℕ
@@ -85,46 +85,43 @@ module _ (set : Job → Bool) (weight : Job → ℕ) where
       total-zero (λ j. within set weight a a (jobOf jobs j)) (length jobs)
       (λ j l. elim (within? a a (jobOf jobs j)) [ inl i ↦ absurd (omega arith) | inr z ↦ z ])
 
--- the jobs of one place, and those of the places before
+-- the jobs of one place, and those of the places that pass a test
 abbrev pub isOf : ℕ → Job → Bool
 isOf p job = eqb (job .place) p
 
-abbrev pub isBefore : ℕ → Job → Bool
-isBefore p job = ltb (job .place) p
+abbrev pub ofPlaces : (ℕ → Bool) → Job → Bool
+ofPlaces test job = test (job .place)
 
-module _ (weight : Job → ℕ) (a b : ℕ) where
-  -- a job of the places up to m is of a place before m or of m
-  within-next : (m : ℕ) (job : Job) →
-      within (isBefore (suc m)) weight a b job ≤ within (isBefore m) weight a b job + within (isOf m) weight a b job
-  unfolding within
-  within-next m job =
-      elim (ltb? (job .place) (suc m)) [
-        | inr p ↦ rw (p .0) (omega arith)
-        | inl p ↦ elim (ltb? (job .place) m) [
-          | inl q ↦ rw (p .0, q .0) (omega arith)
-          | inr q ↦ rw (p .0, q .0, eq-eqb (job .place) m (omega arith)) (omega arith)
-        ]
+module _ (test : ℕ → Bool) (weight : Job → ℕ) (a b m : ℕ) where
+  -- what a job weighs in the set of a place, if the place passes the test
+  abbrev weighed : Job → ℕ → ℕ
+  weighed job p = on (test p) (within (isOf p) weight a b job)
+
+  -- a job of a place before m that passes the test weighs as much in the set of its place
+  within-place : (job : Job) → job .place < m → within (ofPlaces test) weight a b job ≤ total (weighed job) m
+  within-place job l =
+      elim (within? (ofPlaces test) weight a b job) [
+        | inr z ↦ omega arith
+        | inl i ↦
+            omega (
+              arith,
+              within-is (ofPlaces test) weight a b job i,
+              within-is (isOf (job .place)) weight a b job
+                  (record { isIn = eq-eqb (job .place) (job .place) refl; late = i .late; early = i .early }),
+              ap (λ (c : Bool). on c (within (isOf (job .place)) weight a b job)) (i .isIn),
+              total-apart test (λ p. within (isOf p) weight a b job) (job .place) m l,
+            )
       ]
 
-  -- what the places before m weigh is at most what each of them weighs, put together
-  pub released-places : (jobs : List Job) (m : ℕ) →
-      released (isBefore m) weight jobs a b ≤ total (λ p. released (isOf p) weight jobs a b) m
-  unfolding total
-  released-places jobs zero =
+  -- where all jobs are of places before m, those that pass weigh at most what each such place weighs, put together
+  pub released-places : (jobs : List Job) → ((j : ℕ) → j < length jobs → jobOf jobs j .place < m) →
+      released (ofPlaces test) weight jobs a b ≤ total (λ p. on (test p) (released (isOf p) weight jobs a b)) m
+  released-places jobs inside =
       omega (
         arith,
-        total-zero (λ j. within (isBefore 0) weight a b (jobOf jobs j)) (length jobs)
-            (λ j l. elim (within? (isBefore 0) weight a b (jobOf jobs j)) [
-              | inl i ↦ absurd (omega (arith, ltb-true (jobOf jobs j .place) 0 (i .isIn)))
-              | inr z ↦ z
-            ]),
-      )
-  released-places jobs (suc m) =
-      omega (
-        arith,
-        released-places jobs m,
-        total-mono (λ j. within (isBefore (suc m)) weight a b (jobOf jobs j))
-            (λ j. within (isBefore m) weight a b (jobOf jobs j) + within (isOf m) weight a b (jobOf jobs j)) (length jobs)
-            (λ j l. within-next m (jobOf jobs j)),
-        total-add (λ j. within (isBefore m) weight a b (jobOf jobs j)) (λ j. within (isOf m) weight a b (jobOf jobs j)) (length jobs),
+        total-mono (λ j. within (ofPlaces test) weight a b (jobOf jobs j)) (λ j. total (weighed (jobOf jobs j)) m) (length jobs)
+            (λ j l. within-place (jobOf jobs j) (inside j l)),
+        total-swap (λ j. weighed (jobOf jobs j)) m (length jobs),
+        total-same (λ p. total (λ j. weighed (jobOf jobs j) p) (length jobs)) (λ p. on (test p) (released (isOf p) weight jobs a b)) m
+            (λ p l. total-on (test p) (λ j. within (isOf p) weight a b (jobOf jobs j)) (length jobs)),
       )

@@ -1,5 +1,5 @@
 -- Small runs, drawn by hand: what a run is may be read off them, and nothing that they do may be forbidden (SPECIFICATION 7;
--- document 01, "A run").
+-- document 01, "A run", and document 02, L6).
 -- Assumes nothing.
 use Prim.Native.Nat.{ℕ}
 use mathlib.Core.Path.{_≡_}
@@ -76,12 +76,25 @@ sporadic =
       drawn = idle ∷ serves 2 ∷ serves 1 ∷ serves 2 ∷ idle ∷ idle ∷ idle ∷ serves 3 ∷ serves 3 ∷ serves 0 ∷ [];
     }
 
+-- Three tasks, (8, 1) above (8, 3) and (8, 2) of one priority. Job 0 is older than job 1 and goes on before it, though its place is the
+-- higher one, and though job 2, which is more urgent, comes between. Jobs 3 and 4 are released together: job 4 goes first, of the lower
+-- place, though it stands later in the list.
+abbrev pub tied : Example
+tied =
+    record {
+      tasks = task 2 8 1 ∷ task 1 8 3 ∷ task 1 8 2 ∷ [];
+      jobs = job 2 0 2 ∷ job 1 1 3 ∷ job 0 1 1 ∷ job 2 10 1 ∷ job 1 10 2 ∷ [];
+      ticks = 14;
+      drawn =
+          serves 0 ∷ serves 2 ∷ serves 0 ∷ serves 1 ∷ serves 1 ∷ serves 1 ∷ idle ∷ idle ∷ idle ∷ idle ∷ serves 4 ∷ serves 4 ∷ serves 3 ∷ idle ∷ [];
+    }
+
 -- A run may have no job, and no tick.
 abbrev pub empty : Example
 empty = record { tasks = task 1 1 1 ∷ []; jobs = []; ticks = 0; drawn = [] }
 
 abbrev pub examples : List Example
-examples = preempted ∷ three ∷ queued ∷ sporadic ∷ empty ∷ []
+examples = preempted ∷ three ∷ queued ∷ sporadic ∷ tied ∷ empty ∷ []
 
 abbrev pub AllDrawn : List Example → Type 0
 AllDrawn [] = Unit {0}

@@ -1,20 +1,19 @@
 -- Tasks that fit, and the jobs of a run (SPECIFICATION 7.1; document 01, "The table's bytes" and "A run").
 -- Assumes nothing.
-use Prim.Native.Nat.{ℕ, suc, _+_, _≤_, _<_}
+use Prim.Native.Nat.{ℕ, _+_, _≤_, _<_}
 use mathlib.Core.Path.{_≡_}
 use mathlib.Core.Logic.{_≢_}
 use mathlib.Core.List.{List}
 use lib.ListN.{length, getD}
 use Rattle.model.specs.Tables.{Task, taskOf}
 
--- What an accepted table says of its tasks: "T and C are 1 to 1,000,000. D is 1 to T." "Priorities .. strictly fall from each
--- record to the next." The largest numbers play no part in a run.
+-- What an accepted table says of its tasks: "T and C are 1 to 1,000,000. D is 1 to T." The largest numbers play no part in a run, and no
+-- more does the order in which the priorities stand.
 pub record TasksFit (tasks : List Task) : Type 0 where
   pub periodLow : (i : ℕ) → i < length tasks → 1 ≤ taskOf tasks i .period
   pub costLow : (i : ℕ) → i < length tasks → 1 ≤ taskOf tasks i .cost
   pub deadlineLow : (i : ℕ) → i < length tasks → 1 ≤ taskOf tasks i .deadline
   pub deadlineHigh : (i : ℕ) → i < length tasks → taskOf tasks i .deadline ≤ taskOf tasks i .period
-  pub fall : (i : ℕ) → suc i < length tasks → taskOf tasks (suc i) .priority < taskOf tasks i .priority
 
 -- A run knows no delay: its releases are when the jobs can be served. Where the latest delay is 0, the earliest, which is at most that,
 -- is 0 too.

@@ -4,3 +4,4 @@ pub mod Statement
 pub mod Scheduler
 pub mod Examples
 pub mod Synchronous
+pub mod Ties

@@ -1,4 +1,4 @@
--- What the ticks of a run serve (SPECIFICATION 7.2; document 01, "A run"): laws, and no program.
+-- What the ticks of a run serve (SPECIFICATION 7.2; document 01, "A run", and document 02, L6): laws, and no program.
 -- Assumes nothing.
 use Prim.Native.Nat.{ℕ, zero, suc, _+_, _≤_, _<_}
 use mathlib.Core.Path.{_≡_}
@@ -39,7 +39,7 @@ pub record Ready (jobs : List Job) (s : Schedule) (j t : ℕ) : Type 0 where
   pub unfinished : ¬ Finished jobs s j t
 
 -- "In each tick the processor serves one unfinished, already released job, if there is one: the most urgent task that has any, and
--- of that task the oldest."
+-- of that task the oldest." And where tasks share a priority: "In a run, equal jobs go oldest release first, then lower place."
 pub record LegalSchedule (tasks : List Task) (ticks : ℕ) (jobs : List Job) (s : Schedule) : Type 0 where
   -- what a tick serves is ready
   pub ready : (t j : ℕ) → t < ticks → s t ≡ serves j → Ready jobs s j t
@@ -48,9 +48,14 @@ pub record LegalSchedule (tasks : List Task) (ticks : ℕ) (jobs : List Job) (s 
   -- "the most urgent task that has any": no ready job is of a task with a larger priority number
   pub urgent : (t j k : ℕ) → t < ticks → s t ≡ serves j → Ready jobs s k t →
       taskFor tasks jobs k .priority ≤ taskFor tasks jobs j .priority
-  -- "and of that task the oldest": no ready job of the same task was released before
-  pub oldest : (t j k : ℕ) → t < ticks → s t ≡ serves j → Ready jobs s k t → jobOf jobs k .place ≡ jobOf jobs j .place →
-      jobOf jobs j .release ≤ jobOf jobs k .release
+  -- "equal jobs go oldest release first": no ready job of equal priority was released before. The jobs of one task are equal too: "and of
+  -- that task the oldest"
+  pub oldest : (t j k : ℕ) → t < ticks → s t ≡ serves j → Ready jobs s k t →
+      taskFor tasks jobs k .priority ≡ taskFor tasks jobs j .priority → jobOf jobs j .release ≤ jobOf jobs k .release
+  -- "then lower place": no ready job of equal priority and equal release is of a place before
+  pub lowerPlace : (t j k : ℕ) → t < ticks → s t ≡ serves j → Ready jobs s k t →
+      taskFor tasks jobs k .priority ≡ taskFor tasks jobs j .priority → jobOf jobs k .release ≡ jobOf jobs j .release →
+      jobOf jobs j .place ≤ jobOf jobs k .place
 
 -- A run of the tasks: its ticks, its jobs, and what each tick serves.
 pub record Run (tasks : List Task) : Type 0 where

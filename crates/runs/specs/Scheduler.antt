@@ -16,11 +16,17 @@ use Rattle.runs.specs.Schedule.{Service, idle, serves, Schedule, countFo
 abbrev pub isReady : List Job → List Service → ℕ → ℕ → Bool
 isReady jobs past t j = both (leb (jobOf jobs j .release) t) (ltb (sumOf (countFor j) past) (jobOf jobs j .need))
 
--- does job a go before job b: more urgent, or as urgent and older?
+-- of two equal jobs, does a go before b: older, or as old and of a lower place?
+abbrev pub firstOfEquals : List Job → ℕ → ℕ → Bool
+firstOfEquals jobs a b =
+    either (ltb (jobOf jobs a .release) (jobOf jobs b .release))
+    (both (eqb (jobOf jobs a .release) (jobOf jobs b .release)) (ltb (jobOf jobs a .place) (jobOf jobs b .place)))
+
+-- does job a go before job b: more urgent, or as urgent and the first of equals?
 abbrev pub goesBefore : List Task → List Job → ℕ → ℕ → Bool
 goesBefore tasks jobs a b =
     either (ltb (taskFor tasks jobs b .priority) (taskFor tasks jobs a .priority))
-    (both (eqb (taskFor tasks jobs a .priority) (taskFor tasks jobs b .priority)) (ltb (jobOf jobs a .release) (jobOf jobs b .release)))
+    (both (eqb (taskFor tasks jobs a .priority) (taskFor tasks jobs b .priority)) (firstOfEquals jobs a b))
 
 -- what was found so far, or job a where nothing was found or a goes before it
 abbrev pub better : List Task → List Job → ℕ → Service → Service

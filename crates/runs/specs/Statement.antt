@@ -1,10 +1,11 @@
--- Demand 3 over any list of tasks (SPECIFICATION 8.3; document 01, "A run"), and that it speaks of something. Proofs are in proofs/.
+-- Demand 3 over any list of tasks (SPECIFICATION 8.3; document 01, "A run", and document 02, L6), and that it speaks of something. Proofs
+-- are in proofs/.
 -- Assumes nothing.
 use Prim.Native.Nat.{ℕ, _+_, _-_, _≤_, _<_}
 use mathlib.Core.Path.{_≡_}
 use mathlib.Core.List.{List}
 use lib.ListN.{length}
-use Rattle.model.specs.Tables.{Task, taskOf, loadsOf}
+use Rattle.model.specs.Tables.{Task, taskOf, loadsOf, Alone}
 use Rattle.equation.specs.Answer.{answer}
 use Rattle.runs.specs.Jobs.{Job, jobOf, TasksFit, NoDelay, LegalJobs}
 use Rattle.runs.specs.Schedule.{Schedule, Finished, LegalSchedule, Run}
@@ -24,10 +25,15 @@ releaseOf {run = run} job = jobOf (run .jobs) (job .number) .release
 abbrev pub FinishedAt : {tasks : List Task} {i : ℕ} {run : Run tasks} → OwnJob tasks i run → ℕ → Type 0
 FinishedAt {run = run} job x = Finished (run .jobs) (run .schedule) (job .number) x
 
--- What R says of the task at place i, if R is its answer.
+-- What R says of the task at place i, if R is its answer. The first half: "no job exceeds R".
+-- "For answer R above 0: every job released at r with r + R ≤ N is finished at r + R;"
+abbrev pub NoneExceeds : List Task → ℕ → ℕ → Type 0
+NoneExceeds tasks i R =
+    1 ≤ R → (run : Run tasks) (job : OwnJob tasks i run) → releaseOf job + R ≤ run .ticks → FinishedAt job (releaseOf job + R)
+
+-- Both halves.
 pub record Answers (tasks : List Task) (i R : ℕ) : Type 0 where
-  -- "For answer R above 0: every job released at r with r + R ≤ N is finished at r + R;"
-  pub upper : 1 ≤ R → (run : Run tasks) (job : OwnJob tasks i run) → releaseOf job + R ≤ run .ticks → FinishedAt job (releaseOf job + R)
+  pub upper : NoneExceeds tasks i R
   -- "and some run with r + R ≤ N has such a job unfinished at r + R − 1."
   pub needsAll : 1 ≤ R → (run : Run tasks) × (job : OwnJob tasks i run) × (releaseOf job + R ≤ run .ticks) ×
       (¬ FinishedAt job (releaseOf job + R - 1))
@@ -41,8 +47,13 @@ responseOf tasks i = answer (taskOf tasks i .cost) (loadsOf tasks i) 0 (taskOf t
 
 -- The answers of the equation are right about every run. (Of the words that a call leaves, `Demand3` in crates/response says so.)
 -- "More urgent tasks may themselves be late; the statement still holds.": nothing is asked of the other tasks' answers.
-abbrev pub EquationRight : Type 0
-EquationRight = (tasks : List Task) → TasksFit tasks → NoDelay tasks → (i : ℕ) → i < length tasks → Answers tasks i (responseOf tasks i)
+pub record EquationRight : Type 0 where
+  -- "For tables with ties demand 3 keeps only its first half": it holds for every task, whoever shares its priority
+  pub firstHalf : (tasks : List Task) → TasksFit tasks → NoDelay tasks → (i : ℕ) → i < length tasks →
+      NoneExceeds tasks i (responseOf tasks i)
+  -- both hold for every task whose priority no other task has, whatever ties there are among the others
+  pub bothHalves : (tasks : List Task) → TasksFit tasks → NoDelay tasks → (i : ℕ) → i < length tasks → Alone tasks i →
+      Answers tasks i (responseOf tasks i)
 
 -- It says so of no other number up to the deadline: a generous one fails "some run", a small one fails "every job".
 abbrev pub OnlyAnswer : Type 0

@@ -1,5 +1,5 @@
 -- The run in which all tasks are released together (SPECIFICATION 7.3; document 02, L1): its jobs, what each task has left at a tick, and
--- that no run is worse.
+-- that no run is worse for a task whose priority no other task has.
 -- Assumes nothing.
 use Prim.Native.Nat.{ℕ, zero, suc, _*_, _-_, _≤_, _<_}
 use mathlib.Core.Path.{_≡_}
@@ -8,7 +8,7 @@ use lib.Dec.{eqb, ltb}
 use lib.ListN.{length}
 use Rattle.model.specs.Choice.{both, on}
 use Rattle.model.specs.Lists.{tabulate, total}
-use Rattle.model.specs.Tables.{Task, taskOf}
+use Rattle.model.specs.Tables.{Task, taskOf, Alone}
 use Rattle.equation.specs.Rounding.{ceilDiv}
 use Rattle.runs.specs.Jobs.{Job, jobOf, TasksFit, NoDelay, LegalJobs}
 use Rattle.runs.specs.Schedule.{Schedule, servedBefore, Finished, LegalSchedule}
@@ -60,10 +60,11 @@ pub record WorstRun (tasks : List Task) (ticks : ℕ) (s : Schedule) (i j x : �
   pub inTime : 1 ≤ responseOf tasks i → responseOf tasks i ≤ x → Finished (synchronous tasks ticks) s j x
   pub notBefore : Finished (synchronous tasks ticks) s j x → (1 ≤ responseOf tasks i) × (responseOf tasks i ≤ x)
 
--- It says so for each task, and each x up to its deadline. By demand 3 no job in any run takes longer than the answer: this is the
--- worst run.
+-- It says so for each task whose priority no other task has, and each x up to its deadline. By demand 3 no job in any run takes longer
+-- than the answer: this is the worst run.
 abbrev pub SynchronousIsWorst : Type 0
 SynchronousIsWorst =
     (tasks : List Task) → TasksFit tasks → NoDelay tasks → (ticks : ℕ) (s : Schedule) →
-    LegalSchedule tasks ticks (synchronous tasks ticks) s → (i j : ℕ) → i < length tasks → FirstJob (synchronous tasks ticks) i j →
+    LegalSchedule tasks ticks (synchronous tasks ticks) s → (i j : ℕ) → i < length tasks → Alone tasks i →
+    FirstJob (synchronous tasks ticks) i j →
     (x : ℕ) → x ≤ ticks → x ≤ taskOf tasks i .deadline → WorstRun tasks ticks s i j x

@@ -8,11 +8,11 @@ use mathlib.Core.Bool.{true}
 use mathlib.Core.List.{List}
 use mathlib.Core.Logic.{_⊎_, inl, inr}
 use lib.ListN.{length, getD}
-use Rattle.model.specs.Tables.{Row, noTask, taskOf}
+use Rattle.model.specs.Tables.{Task, Row, noTask, taskOf, priorityOf}
 use Rattle.model.proofs.Lists.{getD-tabulate, length-tabulate}
 use Rattle.model.proofs.Tests.{eqb?, clash}
 use Rattle.tables.specs.declared.layout.Layout.{Layout}
-use Rattle.tables.specs.Layout.{versionOne, versionTwo, noVersion, versionOf, layoutFor, layoutOf, recordStart, taskCount, rowCount, taskAt, rowAt, tasksOf, rowsOf, Sound}
+use Rattle.tables.specs.Layout.{versionOne, versionTwo, noVersion, versionOf, layoutFor, layoutOf, recordStart, taskCount, rowCount, taskAt, rowAt, tasksOf, rowsOf, priorityIn, Sound}
 use Rattle.tables.specs.Meaning.{VersionKnown}
 
 -- the layout of any bytes is one of three
@@ -81,6 +81,9 @@ module _ (layout : Layout) where
 module _ (bytes : List ℕ) where
   pub task-is : (i : ℕ) → i < taskCount bytes → taskOf (tasksOf bytes) i ≡ taskAt bytes i
   task-is i h = getD-tabulate (taskAt bytes) (taskCount bytes) i noTask h
+
+  pub priority-at : (i : ℕ) → i < taskCount bytes → priorityOf (tasksOf bytes) i ≡ priorityIn bytes i
+  priority-at i h = ap (λ (t : Task). t .priority) (task-is i h)
 
   pub tasks-count : length (tasksOf bytes) ≡ taskCount bytes
   tasks-count = length-tabulate (taskAt bytes) (taskCount bytes)

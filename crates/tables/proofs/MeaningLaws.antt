@@ -1,6 +1,6 @@
 -- Each test of the rules passes exactly where the rule holds.
 -- Assumes nothing.
-use Prim.Native.Nat.{ℕ, zero, suc, _-_, _<_}
+use Prim.Native.Nat.{ℕ, zero, suc, _-_, _≤_}
 use native.Mathlib.Omega.{arith}
 use native.Mathlib.Decide.{ℕ-discrete}
 use mathlib.Core.Path.{_≡_, refl, subst}
@@ -57,24 +57,24 @@ module _ (bytes : List ℕ) where
       let b = both-true (leb 1 (priorityIn bytes i)) _ p in
       record {
         positive = leb-true 1 (priorityIn bytes i) (b .0);
-        falls = λ before e.
+        notRising = λ before e.
             let back : i - 1 ≡ before = omega arith in
             let second = either-true (eqb i 0) _ (b .1) (ne-eqb i 0 (λ (z : i ≡ 0). omega arith)) in
-            subst (λ (j : ℕ). priorityIn bytes i < priorityIn bytes j) back (ltb-true _ _ second);
+            subst (λ (j : ℕ). priorityIn bytes i ≤ priorityIn bytes j) back (leb-true _ _ second);
       }
 
   priority-holds : (i : ℕ) → PriorityInOrder (taskAt bytes) i → priorityFits bytes i ≡ true
   unfolding priorityFits
   priority-holds i o =
-      both-pass (le-leb 1 (priorityIn bytes i) (o .positive)) (go i (o .falls))
+      both-pass (le-leb 1 (priorityIn bytes i) (o .positive)) (go i (o .notRising))
     where
-      go : (k : ℕ) → ((before : ℕ) → suc before ≡ k → priorityIn bytes i < priorityIn bytes before) →
-          either (eqb k 0) (ltb (priorityIn bytes i) (priorityIn bytes (k - 1))) ≡ true
+      go : (k : ℕ) → ((before : ℕ) → suc before ≡ k → priorityIn bytes i ≤ priorityIn bytes before) →
+          either (eqb k 0) (leb (priorityIn bytes i) (priorityIn bytes (k - 1))) ≡ true
       go zero f = refl
       go (suc k) f =
           let back : suc k - 1 ≡ k = omega arith in
-          either-right (eqb (suc k) 0) (ltb (priorityIn bytes i) (priorityIn bytes (suc k - 1)))
-          (lt-ltb (priorityIn bytes i) (priorityIn bytes (suc k - 1)) (rw back (f k refl)))
+          either-right (eqb (suc k) 0) (leb (priorityIn bytes i) (priorityIn bytes (suc k - 1)))
+          (le-leb (priorityIn bytes i) (priorityIn bytes (suc k - 1)) (rw back (f k refl)))
 
   pub record-means : (span i : ℕ) (field : RecordField) → recordTest span (taskAt bytes i) (priorityFits bytes i) field ≡ true →
       RecordFieldRight span bytes i field

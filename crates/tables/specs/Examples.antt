@@ -1,5 +1,5 @@
 -- Places counted by hand: for each version a table that is not refused, for each field a byte that makes it the first at fault, and
--- for each two that are tested one behind the other a table in which both are (SPECIFICATION 3; document 02, L3 and L4).
+-- for each two that are tested one behind the other a table in which both are (SPECIFICATION 3; document 02, L3, L4 and L6).
 -- Assumes nothing.
 use Prim.Native.Nat.{ℕ}
 use mathlib.Core.Path.{_≡_}
@@ -55,7 +55,7 @@ abbrev pub changed : List ℕ → List Write → List ℕ
 changed table [] = table
 changed table (w ∷ ws) = changed (set table (w .byte) (w .value)) ws
 
--- n, m; T, C, D, J, priority of the second record; place, semaphore, length of the second row, and its order
+-- n, m; T, C, D, J of the second record; its priority 0, and above that of the first; place, semaphore, length of the second row, and its order
 abbrev pub changes : List Change
 changes =
     change 3 33 3 3
@@ -64,7 +64,8 @@ changes =
     ∷ change 30 0 5 27
     ∷ change 34 31 5 31
     ∷ change 35 1 5 35
-    ∷ change 22 2 6 22
+    ∷ change 22 0 6 22
+    ∷ change 22 3 6 22
     ∷ change 45 2 7 45
     ∷ change 46 17 7 46
     ∷ change 50 5 7 47
@@ -72,7 +73,7 @@ changes =
     ∷ []
 
 -- the version; n, m, the length; T, C, D of the second record; its earliest delay out of range, its earliest above its latest, its
--- latest out of range; its priority; place, semaphore, length of the second row, and its order
+-- latest out of range; its priority 0, and above that of the first; place, semaphore, length of the second row, and its order
 abbrev pub changesTwo : List Change
 changesTwo =
     change 0 3 2 0
@@ -85,7 +86,8 @@ changesTwo =
     ∷ change 39 1 5 39
     ∷ change 42 4 5 43
     ∷ change 43 1 5 43
-    ∷ change 26 2 6 26
+    ∷ change 26 0 6 26
+    ∷ change 26 3 6 26
     ∷ change 53 2 7 53
     ∷ change 54 17 7 54
     ∷ change 58 5 7 55
@@ -105,10 +107,10 @@ pairs =
     ∷ faults (write 26 0) (write 30 0) 5 23
     ∷ faults (write 30 0) (write 34 31) 5 27
     ∷ faults (write 34 31) (write 35 1) 5 31
-    ∷ faults (write 35 1) (write 22 2) 5 35
-    ∷ faults (write 26 0) (write 22 2) 5 23
+    ∷ faults (write 35 1) (write 22 3) 5 35
+    ∷ faults (write 26 0) (write 22 3) 5 23
     ∷ faults (write 5 0) (write 26 0) 6 5
-    ∷ faults (write 22 2) (write 39 2) 6 22
+    ∷ faults (write 22 3) (write 39 2) 6 22
     ∷ faults (write 44 6) (write 45 2) 7 41
     ∷ faults (write 45 2) (write 46 17) 7 45
     ∷ faults (write 46 17) (write 50 5) 7 46
@@ -124,7 +126,7 @@ pairsTwo =
     ∷ faults (write 34 0) (write 38 31) 5 31
     ∷ faults (write 38 31) (write 39 1) 5 35
     ∷ faults (write 39 1) (write 43 1) 5 39
-    ∷ faults (write 43 1) (write 26 2) 5 43
+    ∷ faults (write 43 1) (write 26 3) 5 43
     ∷ faults (write 53 2) (write 54 17) 7 53
     ∷ faults (write 54 17) (write 58 5) 7 54
     ∷ faults (write 53 0) (write 58 6) 7 55
@@ -140,6 +142,13 @@ toldOf table c = told (tableCheck (changed table (c .writes)) 2 2)
 
 abbrev pub wantedOf : Change → List ℕ
 wantedOf c = c .number ∷ c .place ∷ []
+
+-- both tasks of one priority
+abbrev pub tied : List ℕ
+tied = set right 22 2
+
+abbrev pub tiedTwo : List ℕ
+tiedTwo = set rightTwo 26 2
 
 -- the deadline of the second task 120, which is four of its periods, and 121; its period 300,000 and its deadline 1,000,000, and one more
 abbrev pub fourPeriods : List ℕ
@@ -159,9 +168,12 @@ pub record PlacesDrawn : Type 0 where
   pub places : map (toldOf right) changes ≡ map wantedOf changes
   -- "taken as T, C, D, J, priority, and in a row place, semaphore, length, then row order": the earlier of two faults is told
   pub twoFaults : map (toldOf right) pairs ≡ map wantedOf pairs
+  -- "Records may now repeat a priority", in every version
+  pub tiedClean : tableCheck tied 2 2 ≡ Clean
   pub cleanTwo : tableCheck rightTwo 2 2 ≡ Clean
   pub placesTwo : map (toldOf rightTwo) changesTwo ≡ map wantedOf changesTwo
   pub twoFaultsTwo : map (toldOf rightTwo) pairsTwo ≡ map wantedOf pairsTwo
+  pub tiedTwoClean : tableCheck tiedTwo 2 2 ≡ Clean
   -- a deadline past the period is refused where it may span one, and right where it may span four: up to 4 T, and to 1,000,000
   pub pastPeriod : told (tableCheck fourPeriods 2 2) ≡ 5 ∷ 31 ∷ []
   pub spansFour : tableCheckSpanning 4 fourPeriods 2 2 ≡ Clean

@@ -1,5 +1,5 @@
--- The rules of the table's bytes (SPECIFICATION 2; document 01, "The table's bytes", and document 02, L4), without any test, field by
--- field.
+-- The rules of the table's bytes (SPECIFICATION 2; document 01, "The table's bytes", and document 02, L4 and L6), without any test,
+-- field by field.
 -- Assumes nothing.
 use Prim.Native.Nat.{ℕ, suc, _≤_, _<_}
 use mathlib.Core.Path.{_≡_}
@@ -40,11 +40,11 @@ pub record LengthsEqual (bytes : List ℕ) : Type 0 where
   pub stated : statedLength bytes ≡ length bytes
   pub summed : lengthFor (layoutOf bytes) (taskCount bytes) (rowCount bytes) ≡ length bytes
 
--- 6: "Priorities are 1 to 255 and strictly fall from each record to the next." (A byte is at most 255.) The tasks are given by their
--- places.
+-- 6: "Priorities are 1 to 255" (a byte is at most 255), and "Records may now repeat a priority but not rise" (SPECIFICATION 2.3;
+-- document 02, L6). The tasks are given by their places.
 pub record PriorityInOrder (task : ℕ → Task) (i : ℕ) : Type 0 where
   pub positive : 1 ≤ task i .priority
-  pub falls : (before : ℕ) → suc before ≡ i → task i .priority < task before .priority
+  pub notRising : (before : ℕ) → suc before ≡ i → task i .priority ≤ task before .priority
 
 -- "Rows strictly rise by place, then semaphore."
 pub record RowsRise (before row : Row) : Type 0 where

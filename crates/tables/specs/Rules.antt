@@ -25,10 +25,10 @@ lengthsAgree bytes =
     both (eqb (statedLength bytes) (length bytes))
     (eqb (lengthFor (layoutOf bytes) (taskCount bytes) (rowCount bytes)) (length bytes))
 
--- "Priorities are 1 to 255 and strictly fall from each record to the next."
+-- "Priorities are 1 to 255", and "Records may now repeat a priority but not rise" (SPECIFICATION 2.3; document 02, L6)
 unfoldable pub priorityFits : List ℕ → ℕ → Bool
 priorityFits bytes i =
-    both (leb 1 (taskAt bytes i .priority)) (either (eqb i 0) (ltb (taskAt bytes i .priority) (taskAt bytes (i - 1) .priority)))
+    both (leb 1 (taskAt bytes i .priority)) (either (eqb i 0) (leb (taskAt bytes i .priority) (taskAt bytes (i - 1) .priority)))
 
 -- The longest deadline of a task of that period, where a deadline may span so many periods: that many, and no more than 1,000,000
 -- ticks. One period is document 01's rule, "D is 1 to T": no T is above 1,000,000.

@@ -56,7 +56,7 @@ pub const ONE_PERIOD: u32 = 1;
 pub struct Offset(pub usize);
 
 // Why a table is refused (SPECIFICATION 3; document 01, "Refusals"), and where a field is at fault its first byte (document 02, L3). The
-// last one is the engine's (SPECIFICATION 9; document 02, L1): the analysis never gives it.
+// last one is the engine's (SPECIFICATION 9; document 02, L1 and L6): the analysis never gives it.
 pub enum Refusal {
     TooShort,
     UnknownVersion,

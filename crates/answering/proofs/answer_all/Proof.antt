@@ -4,92 +4,95 @@ use Prim.Native.Nat.{_-_}
 use native.Mathlib.Omega.{arith}
 use Rattle.model.proofs.Filling.{Filling, filling-none, filling-more, filling-at}
 use Rattle.answering.specs.Slices.{decoded, answerIn, roundsIn}
-use Rattle.answering.proofs.AnsweringLaws.{Answering, answering-none, answering-more, answering-all, urgent-fits, base-fits, loads-fit, first-fits, solvable, response-is, rounds-are}
+use Rattle.answering.proofs.AnsweringLaws.{Answering, answering-none, answering-more, answering-all, reached-more, reached-fits, own-cost, base-fits, loads-fit, first-fits, solvable, response-is, rounds-are}
 use Rattle.answering.proofs.answer_all.Statement.{statement}
 use Rattle.answering.proofs.answer_all.Tie as tie
 
 abbrev Inv-loop : tie.InvT-loop
-Inv-loop start priorities periods costs deadlines spreads latest n owners tops longest m answers₀ rounds₀ verdict₀ urgent₀ i₀ answers rounds verdict urgent i =
-    Answering (decoded priorities periods costs deadlines spreads latest owners tops longest m) n i verdict (urgent .0)
-    × Filling (answerIn (decoded priorities periods costs deadlines spreads latest owners tops longest m)) n i answers₀ answers
-    × Filling (roundsIn start (decoded priorities periods costs deadlines spreads latest owners tops longest m)) n i rounds₀ rounds
+Inv-loop start priorities periods costs deadlines spreads latest n owners tops longest m answers₀ rounds₀ group₀ reached₀ verdict₀ i₀ answers rounds group reached verdict i =
+    Answering (decoded priorities periods costs deadlines spreads latest owners tops longest m) n i (group .end) (group .costs .0) (reached .0) verdict
+    × Filling (answerIn (decoded priorities periods costs deadlines spreads latest owners tops longest m) n) n i answers₀ answers
+    × Filling (roundsIn start (decoded priorities periods costs deadlines spreads latest owners tops longest m) n) n i rounds₀ rounds
 
 abbrev μ-loop : tie.MeasureT-loop
-μ-loop start priorities periods costs deadlines spreads latest n owners tops longest m answers₀ rounds₀ verdict₀ urgent₀ i₀ answers rounds verdict urgent i =
+μ-loop start priorities periods costs deadlines spreads latest n owners tops longest m answers₀ rounds₀ group₀ reached₀ verdict₀ i₀ answers rounds group reached verdict i =
     n - i
 
 loop-holds : tie.Need-loop-holds Inv-loop μ-loop
 loop-holds c = (answering-none _ _ (c .before .before .before .before .before .before .before .before .before .before .before .pre .0), filling-none _ _ _ (c .before .before .before .before .before .before .before .before .before .before .before .pre .1 .0), filling-none _ _ _ (c .before .before .before .before .before .before .before .before .before .before .before .pre .1 .1))
 
-mul-t23 : tie.Need-mul-t23 Inv-loop μ-loop
-mul-t23 c = omega arith
+mul-t27 : tie.Need-mul-t27 Inv-loop μ-loop
+mul-t27 c = omega (arith, c .before .loop .inv .0 .fits .loadsFit .few, c .loop-test .taken)
 
-shared-slice-read-t25 : tie.Need-shared-slice-read-t25 Inv-loop μ-loop
-shared-slice-read-t25 c = omega (arith, c .before .before .loop .inv .0 .fits .loadsFit .costsLong, c .before .loop-test .taken)
+shared-slice-read-t29 : tie.Need-shared-slice-read-t29 Inv-loop μ-loop
+shared-slice-read-t29 c = omega (arith, c .before .before .loop .inv .0 .fits .loadsFit .costsLong, c .before .loop-test .taken)
 
-shared-slice-read-t27 : tie.Need-shared-slice-read-t27 Inv-loop μ-loop
-shared-slice-read-t27 c = omega (arith, c .before .before .before .loop .inv .0 .fits .prioritiesLong, c .before .before .loop-test .taken)
+add-t29 : tie.Need-add-t29 Inv-loop μ-loop
+add-t29 c = omega (arith, reached-fits _ _ _ _ _ _ _ (c .before .before .before .before .loop .inv .0) (c .before .before .before .loop-test .taken))
+
+group-of-requires : tie.Need-group-of-requires Inv-loop μ-loop
+group-of-requires c κs = ((c .before .before .before .before .loop .inv .0 .fits .ranked, c .before .before .before .loop-test .taken), (c .before .before .before .before .loop .inv .0 .group, reached-more _ _ _ _ _ _ _ (c .before .before .before .before .loop .inv .0)))
+
+sub-t29 : tie.Need-sub-t29 Inv-loop μ-loop
+sub-t29 c = own-cost _ _ _ (c .before .before .before .before .before .before .before .loop .inv .0 .fits) (c .before .before .before .before .before .before .loop-test .taken) _ _ _ _ _ _ (c .before .before .group-of .ensures)
+
+shared-slice-read-t31 : tie.Need-shared-slice-read-t31 Inv-loop μ-loop
+shared-slice-read-t31 c = omega (arith, c .before .before .before .before .before .before .before .before .loop .inv .0 .fits .ranked .prioritiesLong, c .before .before .before .before .before .before .before .loop-test .taken)
 
 blocking-requires : tie.Need-blocking-requires Inv-loop μ-loop
 blocking-requires c κs =
-    let f = c .before .before .before .loop .inv .0 .fits in
+    let f = c .before .before .before .before .before .before .before .before .loop .inv .0 .fits in
     ((f .ownersLong, f .topsLong), f .longestLong)
 
-add-t25 : tie.Need-add-t25 Inv-loop μ-loop
-add-t25 c = omega (arith, base-fits _ _ _ _ (c .before .before .before .before .before .before .loop .inv .0 .fits) (c .before .before .before .before .before .loop-test .taken) (c .before .before .blocking .ensures))
+add-t29-2 : tie.Need-add-t29-2 Inv-loop μ-loop
+add-t29-2 c = omega (arith, base-fits _ _ _ _ (c .before .before .before .before .before .before .before .before .before .before .before .loop .inv .0 .fits) (c .before .before .before .before .before .before .before .before .before .before .loop-test .taken) (c .before .before .blocking .ensures))
 
 first-term-requires : tie.Need-first-term-requires Inv-loop μ-loop
-first-term-requires c κs = omega (arith, first-fits _ _ _ _ (c .before .before .before .before .before .before .loop .inv .0 .fits) (c .before .before .before .before .before .loop-test .taken) (c .before .before .blocking .ensures) _ _ (c .before .before .before .before .before .before .loop .inv .0))
+first-term-requires c κs = first-fits _ _ _ (c .before .before .before .before .before .before .before .before .before .before .before .loop .inv .0 .fits) (c .before .before .before .before .before .before .before .before .before .before .loop-test .taken) _ _ _ _ _ _ (c .before .before .before .before .before .before .group-of .ensures) _ (c .before .before .blocking .ensures)
 
-mul-t23-2 : tie.Need-mul-t23-2 Inv-loop μ-loop
-mul-t23-2 c = omega arith
+mul-t27-2 : tie.Need-mul-t27-2 Inv-loop μ-loop
+mul-t27-2 c = omega (arith, c .before .before .before .before .before .before .before .before .before .before .before .before .loop .inv .0 .fits .loadsFit .few, c .before .before .before .before .before .before .before .before .before .before .before .loop-test .taken)
 
-shared-slice-read-t25-2 : tie.Need-shared-slice-read-t25-2 Inv-loop μ-loop
-shared-slice-read-t25-2 c = omega (arith, c .before .before .before .before .before .before .before .before .loop .inv .0 .fits .latestLong, c .before .before .before .before .before .before .before .loop-test .taken)
+shared-slice-read-t29-2 : tie.Need-shared-slice-read-t29-2 Inv-loop μ-loop
+shared-slice-read-t29-2 c = omega (arith, c .before .before .before .before .before .before .before .before .before .before .before .before .before .loop .inv .0 .fits .latestLong, c .before .before .before .before .before .before .before .before .before .before .before .before .loop-test .taken)
 
-mul-t32 : tie.Need-mul-t32 Inv-loop μ-loop
-mul-t32 c = omega arith
+mul-t36 : tie.Need-mul-t36 Inv-loop μ-loop
+mul-t36 c = omega (arith, c .before .before .before .before .before .before .before .before .before .before .before .before .before .loop .inv .0 .fits .loadsFit .few, c .before .before .before .before .before .before .before .before .before .before .before .before .loop-test .taken)
 
-shared-slice-read-t34 : tie.Need-shared-slice-read-t34 Inv-loop μ-loop
-shared-slice-read-t34 c = omega (arith, c .before .before .before .before .before .before .before .before .before .loop .inv .0 .fits .deadlinesLong, c .before .before .before .before .before .before .before .before .loop-test .taken)
+shared-slice-read-t38 : tie.Need-shared-slice-read-t38 Inv-loop μ-loop
+shared-slice-read-t38 c = omega (arith, c .before .before .before .before .before .before .before .before .before .before .before .before .before .before .loop .inv .0 .fits .deadlinesLong, c .before .before .before .before .before .before .before .before .before .before .before .before .before .loop-test .taken)
 
 solve-requires : tie.Need-solve-requires Inv-loop μ-loop
-solve-requires c κs = (
-  loads-fit _ _ _ _ (c .before .before .before .before .before .before .before .before .before .loop .inv .0 .fits) (c .before .before .before .before .before .before .before .before .loop-test .taken) (c .before .before .before .before .before .blocking .ensures),
-  solvable _ _ _ _ (c .before .before .before .before .before .before .before .before .before .loop .inv .0 .fits) (c .before .before .before .before .before .before .before .before .loop-test .taken) (c .before .before .before .before .before .blocking .ensures) _ _ (c .before .before .before .before .before .before .before .before .before .loop .inv .0) (c .before .before .before .before .before .before .before .before .before .before .before .before .before .before .before .before .before .before .before .before .before .args .start) _ (c .before .before .first-term .ensures),
-)
+solve-requires c κs = (loads-fit _ _ _ (c .before .before .before .before .before .before .before .before .before .before .before .before .before .before .loop .inv .0 .fits) (c .before .before .before .before .before .before .before .before .before .before .before .before .before .loop-test .taken) _ _ _ _ _ _ (c .before .before .before .before .before .before .before .before .before .group-of .ensures), solvable _ _ _ (c .before .before .before .before .before .before .before .before .before .before .before .before .before .before .loop .inv .0 .fits) (c .before .before .before .before .before .before .before .before .before .before .before .before .before .loop-test .taken) _ _ _ _ _ _ (c .before .before .before .before .before .before .before .before .before .group-of .ensures) _ (c .before .before .before .before .before .blocking .ensures) (c .before .before .before .before .before .before .before .before .before .before .before .before .before .before .before .before .before .before .before .before .before .before .before .before .before .before .args .start) _ (c .before .before .first-term .ensures))
 
 mul-answers : tie.Need-mul-answers Inv-loop μ-loop
-mul-answers c = omega arith
+mul-answers c = omega (arith, c .before .before .before .before .before .before .before .before .before .before .before .before .before .before .before .loop .inv .0 .fits .loadsFit .few, c .before .before .before .before .before .before .before .before .before .before .before .before .before .before .loop-test .taken)
 
 slice-write-answers : tie.Need-slice-write-answers Inv-loop μ-loop
-slice-write-answers c = omega (arith, c .before .before .before .before .before .before .before .before .before .before .loop .inv .1 .long, c .before .before .before .before .before .before .before .before .before .before .loop .inv .1 .room, c .before .before .before .before .before .before .before .before .before .loop-test .taken)
+slice-write-answers c = omega (arith, c .before .before .before .before .before .before .before .before .before .before .before .before .before .before .before .loop .inv .1 .long, c .before .before .before .before .before .before .before .before .before .before .before .before .before .before .before .loop .inv .1 .room, c .before .before .before .before .before .before .before .before .before .before .before .before .before .before .loop-test .taken)
 
 mul-rounds : tie.Need-mul-rounds Inv-loop μ-loop
-mul-rounds c = omega arith
+mul-rounds c = omega (arith, c .before .before .before .before .before .before .before .before .before .before .before .before .before .before .before .loop .inv .0 .fits .loadsFit .few, c .before .before .before .before .before .before .before .before .before .before .before .before .before .before .loop-test .taken)
 
 slice-write-rounds : tie.Need-slice-write-rounds Inv-loop μ-loop
-slice-write-rounds c = omega (arith, c .before .before .before .before .before .before .before .before .before .before .loop .inv .2 .long, c .before .before .before .before .before .before .before .before .before .before .loop .inv .2 .room, c .before .before .before .before .before .before .before .before .before .loop-test .taken)
+slice-write-rounds c = omega (arith, c .before .before .before .before .before .before .before .before .before .before .before .before .before .before .before .loop .inv .2 .long, c .before .before .before .before .before .before .before .before .before .before .before .before .before .before .before .loop .inv .2 .room, c .before .before .before .before .before .before .before .before .before .before .before .before .before .before .loop-test .taken)
 
 with-answer-requires : tie.Need-with-answer-requires Inv-loop μ-loop
 with-answer-requires c κs = omega arith
 
-add-t25-2 : tie.Need-add-t25-2 Inv-loop μ-loop
-add-t25-2 c = omega (arith, urgent-fits _ _ _ _ _ (c .before .before .before .before .before .before .before .before .before .before .before .before .before .loop .inv .0) (c .before .before .before .before .before .before .before .before .before .before .before .before .loop-test .taken), c .before .before .before .before .before .before .before .before .before .before .before .before .before .loop .inv .0 .fits .loadsFit .few)
-
 add-i : tie.Need-add-i Inv-loop μ-loop
-add-i c = omega arith
+add-i c = omega (arith, c .before .before .before .before .before .before .before .before .before .before .before .before .before .before .before .before .loop .inv .0 .fits .loadsFit .few, c .before .before .before .before .before .before .before .before .before .before .before .before .before .before .before .loop-test .taken)
 
 loop-less : tie.Need-loop-less Inv-loop μ-loop
-loop-less c = omega arith
+loop-less c = omega (arith, c .before .before .before .before .before .before .before .before .before .before .before .before .before .before .before .loop-test .taken)
 
 loop-again : tie.Need-loop-again Inv-loop μ-loop
 loop-again c =
-    let v = c .before .before .before .before .before .before .before .before .before .before .before .before .before .loop .inv in
-    let h = c .before .before .before .before .before .before .before .before .before .before .before .before .loop-test .taken in
-    let answer = response-is _ _ _ _ (v .0 .fits) h (c .before .before .before .before .before .before .before .before .before .blocking .ensures) _ _ (v .0) (c .before .before .before .before .before .before .before .before .before .before .before .before .before .before .before .before .before .before .before .before .before .before .before .before .before .args .start) _ (c .before .before .before .before .before .before .first-term .ensures) _ _ (c .before .before .before .solve .ensures) in
-    let spent = rounds-are _ _ _ _ (v .0 .fits) h (c .before .before .before .before .before .before .before .before .before .blocking .ensures) _ _ (v .0) (c .before .before .before .before .before .before .before .before .before .before .before .before .before .before .before .before .before .before .before .before .before .before .before .before .before .args .start) _ (c .before .before .before .before .before .before .first-term .ensures) _ _ (c .before .before .before .solve .ensures) in (
-      answering-more _ _ _ _ _ _ _ (v .0) h answer (c .before .before .with-answer .ensures),
+    let v = c .before .before .before .before .before .before .before .before .before .before .before .before .before .before .before .before .loop .inv in
+    let h = c .before .before .before .before .before .before .before .before .before .before .before .before .before .before .before .loop-test .taken in
+    let answer = response-is _ _ _ (v .0 .fits) h _ _ _ _ _ _ (c .before .before .before .before .before .before .before .before .before .before .before .group-of .ensures) _ (c .before .before .before .before .before .before .before .blocking .ensures) (c .before .before .before .before .before .before .before .before .before .before .before .before .before .before .before .before .before .before .before .before .before .before .before .before .before .before .before .before .args .start) _ (c .before .before .before .before .first-term .ensures) _ _ _ (c .before .solve .ensures) in
+    let spent = rounds-are _ _ _ (v .0 .fits) h _ _ _ _ _ _ (c .before .before .before .before .before .before .before .before .before .before .before .group-of .ensures) _ (c .before .before .before .before .before .before .before .blocking .ensures) (c .before .before .before .before .before .before .before .before .before .before .before .before .before .before .before .before .before .before .before .before .before .before .before .before .before .before .before .before .args .start) _ (c .before .before .before .before .first-term .ensures) _ _ _ (c .before .solve .ensures) in (
+      answering-more _ _ _ (v .0 .fits) h _ _ _ _ _ _ (c .before .before .before .before .before .before .before .before .before .before .before .group-of .ensures) _ _ _ _ _ (v .0) answer (c .before .solve .ensures .lateIs) (c .with-answer .ensures),
       filling-more _ _ _ _ _ _ (v .1) h answer,
       filling-more _ _ _ _ _ _ (v .2) h spent,
     )
@@ -103,7 +106,7 @@ same-length-2 c = c .before .loop .inv .2 .long
 returns : tie.Need-returns Inv-loop μ-loop
 returns c =
     let v = c .before .loop .inv in
-    let w = answering-all _ _ _ _ _ (v .0) (c .loop-test .left) in
+    let w = answering-all _ _ _ _ _ _ _ (v .0) (c .loop-test .left) in
     record {
       verdictIs = w .1;
       answersAre = filling-at _ _ _ _ _ (v .1) _ (w .0);
@@ -117,23 +120,25 @@ answer-all-spec =
     Inv-loop
     μ-loop
     loop-holds
-    mul-t23
-    shared-slice-read-t25
-    shared-slice-read-t27
+    mul-t27
+    shared-slice-read-t29
+    add-t29
+    group-of-requires
+    sub-t29
+    shared-slice-read-t31
     blocking-requires
-    add-t25
+    add-t29-2
     first-term-requires
-    mul-t23-2
-    shared-slice-read-t25-2
-    mul-t32
-    shared-slice-read-t34
+    mul-t27-2
+    shared-slice-read-t29-2
+    mul-t36
+    shared-slice-read-t38
     solve-requires
     mul-answers
     slice-write-answers
     mul-rounds
     slice-write-rounds
     with-answer-requires
-    add-t25-2
     add-i
     loop-less
     loop-again

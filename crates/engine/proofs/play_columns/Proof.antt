@@ -1,9 +1,9 @@
--- `engine::play_columns` meets its contract: the room, the rows, the delays, then the play.
+-- `engine::play_columns` meets its contract: the room, the rows, the delays, the ties, then the play.
 -- Assumes nothing.
 use native.Mathlib.Omega.{arith}
 use mathlib.Core.Path.{sym, _∙_}
 use Rattle.machine.proofs.PlayLaws.{start-zeros}
-use Rattle.engine.proofs.PlayedLaws.{right, tasks-held, deadlines-held, limit-high, no-room, rows-refused, delay-refused, all-played}
+use Rattle.engine.proofs.PlayedLaws.{right, tasks-held, deadlines-held, limit-high, no-room, rows-refused, delay-refused, tie-refused, all-played}
 use borrow.Author.Needs.{needs}
 use Rattle.engine.proofs.play_columns.Statement.{statement}
 use Rattle.engine.proofs.play_columns.Tie as tie
@@ -37,6 +37,12 @@ largest-requires c κs = search needs
 
 returns-3 : tie.Need-returns-3
 returns-3 c = delay-refused _ _ _ _ _ (c .before .before .before .before .before .before .before .before .before .before .before .before .pre .1) _ (c .before .before .before .before .before .before .before .count .ensures .0) _ (c .before .before .before .before .before .before .if1 .left) (λ e. c .if3 .taken (c .before .before .largest .ensures ∙ e))
+
+any-tie-requires : tie.Need-any-tie-requires
+any-tie-requires c κs = (right _ _ _ _ _ (c .before .before .before .before .before .before .before .before .before .before .before .before .pre .1), c .before .before .before .before .before .before .before .count .ensures .0)
+
+returns-4 : tie.Need-returns-4
+returns-4 c = tie-refused _ _ _ _ _ (c .before .before .before .before .before .before .before .before .before .before .before .before .before .before .pre .1) _ (c .before .before .before .before .before .before .before .before .before .count .ensures .0) _ (c .before .before .before .before .before .before .before .before .if1 .left) (sym (c .before .any-tie .ensures) ∙ c .if4 .taken)
 
 sub-periods : tie.Need-sub-periods
 sub-periods c = search needs
@@ -75,16 +81,14 @@ slice-aggregate-play-all-2 : tie.Need-slice-aggregate-play-all-2
 slice-aggregate-play-all-2 c = search needs
 
 play-all-requires : tie.Need-play-all-requires
-play-all-requires c κs = (
-  tasks-held _ _ _ _ _ (c .before .before .before .before .before .before .before .before .before .before .before .before .before .before .before .before .before .before .before .pre .1) _ (c .before .before .before .before .before .before .before .before .before .before .before .before .before .before .count .ensures .0),
-  (
-    deadlines-held _ _ _ _ _ (c .before .before .before .before .before .before .before .before .before .before .before .before .before .before .before .before .before .before .before .pre .1) _ (c .before .before .before .before .before .before .before .before .before .before .before .before .before .before .count .ensures .0),
-    (
-      start-zeros _ 32 (tasks-held _ _ _ _ _ (c .before .before .before .before .before .before .before .before .before .before .before .before .before .before .before .before .before .before .before .pre .1) _ (c .before .before .before .before .before .before .before .before .before .before .before .before .before .before .count .ensures .0) .few),
-      (limit-high _ _ _ _ _ (c .before .before .before .before .before .before .before .before .before .before .before .before .before .before .before .before .before .before .before .pre .1) _ (c .before .before .before .before .before .before .before .before .before .before .before .before .before .before .count .ensures .0) _ (c .before .before .before .largest2 .ensures), c .before .before .before .before .before .before .before .before .before .before .before .before .before .if1 .left),
-    ),
-  ),
-)
+play-all-requires c κs =
+    let held = tasks-held _ _ _ _ _ (c .before .before .before .before .before .before .before .before .before .before .before .before .before .before .before .before .before .before .before .before .before .pre .1) _ (c .before .before .before .before .before .before .before .before .before .before .before .before .before .before .before .before .count .ensures .0) in (
+      held,
+      (
+        deadlines-held _ _ _ _ _ (c .before .before .before .before .before .before .before .before .before .before .before .before .before .before .before .before .before .before .before .before .before .pre .1) _ (c .before .before .before .before .before .before .before .before .before .before .before .before .before .before .before .before .count .ensures .0),
+        (start-zeros _ 32 (held .few), (limit-high _ _ _ _ _ (c .before .before .before .before .before .before .before .before .before .before .before .before .before .before .before .before .before .before .before .before .before .pre .1) _ (c .before .before .before .before .before .before .before .before .before .before .before .before .before .before .before .before .count .ensures .0) _ (c .before .before .before .largest2 .ensures), c .before .before .before .before .before .before .before .before .before .before .before .before .before .before .before .if1 .left)),
+      ),
+    )
 
 result-requires : tie.Need-result-requires
 result-requires c κs = search needs
@@ -92,8 +96,8 @@ result-requires c κs = search needs
 same-length : tie.Need-same-length
 same-length c = search needs
 
-returns-4 : tie.Need-returns-4
-returns-4 c = all-played _ _ _ _ _ (c .before .before .before .before .before .before .before .before .before .before .before .before .before .before .before .before .before .before .before .before .before .before .before .before .before .before .pre .1) _ (c .before .before .before .before .before .before .before .before .before .before .before .before .before .before .before .before .before .before .before .before .before .count .ensures .0) _ (c .before .before .before .before .before .before .before .before .before .before .before .before .before .before .before .before .before .before .before .before .if1 .left) (c .before .before .before .before .before .before .before .before .before .before .before .before .before .before .before .before .before .before .if2 .left) (sym (c .before .before .before .before .before .before .before .before .before .before .before .before .before .before .before .before .largest .ensures) ∙ c .before .before .before .before .before .before .before .before .before .before .before .before .before .before .if3 .left) _ _ _ (c .before .before .before .before .before .before .before .before .before .before .largest2 .ensures) (c .before .before .before .before .before .before .play-all .ensures .1) (c .result .ensures)
+returns-5 : tie.Need-returns-5
+returns-5 c = all-played _ _ _ _ _ (c .before .before .before .before .before .before .before .before .before .before .before .before .before .before .before .before .before .before .before .before .before .before .before .before .before .before .before .before .pre .1) _ (c .before .before .before .before .before .before .before .before .before .before .before .before .before .before .before .before .before .before .before .before .before .before .before .count .ensures .0) _ (c .before .before .before .before .before .before .before .before .before .before .before .before .before .before .before .before .before .before .before .before .before .before .if1 .left) (c .before .before .before .before .before .before .before .before .before .before .before .before .before .before .before .before .before .before .before .before .if2 .left) (sym (c .before .before .before .before .before .before .before .before .before .before .before .before .before .before .before .before .before .before .largest .ensures) ∙ c .before .before .before .before .before .before .before .before .before .before .before .before .before .before .before .before .if3 .left) (sym (c .before .before .before .before .before .before .before .before .before .before .before .before .before .before .before .any-tie .ensures) ∙ c .before .before .before .before .before .before .before .before .before .before .before .before .before .before .if4 .left) _ _ _ (c .before .before .before .before .before .before .before .before .before .before .largest2 .ensures) (c .before .before .before .before .before .before .play-all .ensures .1) (c .result .ensures)
 
 pub play-columns-spec : {M : Type 1} → statement M
 play-columns-spec =
@@ -109,6 +113,8 @@ play-columns-spec =
     part-latest-end
     largest-requires
     returns-3
+    any-tie-requires
+    returns-4
     sub-periods
     part-periods-start
     part-periods-end
@@ -124,4 +130,4 @@ play-columns-spec =
     play-all-requires
     result-requires
     same-length
-    returns-4)
+    returns-5)

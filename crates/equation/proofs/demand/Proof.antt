@@ -1,92 +1,55 @@
--- `equation::demand` meets its contract: after k turns the sum is the demand of the first k loads, and it fits 64 bits.
+-- `equation::demand` meets its contract: all that is asked for, without the share of the own place where that is in it.
 -- Assumes nothing.
-use Prim.Native.Nat.{_-_}
 use native.Mathlib.Omega.{arith}
-use Rattle.equation.proofs.SliceLaws.{Summing, summing-none, summing-more, share-fits, summed-all}
+use Rattle.equation.proofs.SliceLaws.{demand-all, demand-without, own-inside}
 use Rattle.equation.proofs.demand.Statement.{statement}
 use Rattle.equation.proofs.demand.Tie as tie
 
-abbrev Inv-loop : tie.InvT-loop
-Inv-loop periods costs spreads count w sum₀ k₀ sum k = Summing periods costs spreads count (w .0) sum₀ k sum
+asked-requires : tie.Need-asked-requires
+asked-requires c κs = (c .before .before .before .pre .0, c .before .before .before .pre .1)
 
-abbrev μ-loop : tie.MeasureT-loop
-μ-loop periods costs spreads count w sum₀ k₀ sum k = count - k
+returns : tie.Need-returns
+returns c = demand-all (c .before .before .before .before .before .pre .0) _ _ _ _ (c .before .asked .ensures) (c .if1 .taken)
 
-cast-sum : tie.Need-cast-sum Inv-loop μ-loop
-cast-sum c = omega arith
+mul-t11 : tie.Need-mul-t11
+mul-t11 c = omega (arith, c .before .before .before .before .before .pre .0 .few, c .if1 .left)
 
-loop-holds : tie.Need-loop-holds Inv-loop μ-loop
-loop-holds c = summing-none _ _ _ _ _ _ (c .before .before .before .before .pre .0) (c .before .before .before .before .pre .1) (omega arith)
+shared-slice-read-t13 : tie.Need-shared-slice-read-t13
+shared-slice-read-t13 c = omega (arith, c .before .before .before .before .before .before .pre .0 .periodsLong, c .before .if1 .left)
 
-mul-t11 : tie.Need-mul-t11 Inv-loop μ-loop
-mul-t11 c = omega (arith, c .before .loop .inv .fit .spreadsLong)
+mul-t15 : tie.Need-mul-t15
+mul-t15 c = omega (arith, c .before .before .before .before .before .before .pre .0 .few, c .before .if1 .left)
 
-shared-slice-read-t13 : tie.Need-shared-slice-read-t13 Inv-loop μ-loop
-shared-slice-read-t13 c = omega arith
+shared-slice-read-t17 : tie.Need-shared-slice-read-t17
+shared-slice-read-t17 c = omega (arith, c .before .before .before .before .before .before .before .pre .0 .costsLong, c .before .before .if1 .left)
 
-add-t14 : tie.Need-add-t14 Inv-loop μ-loop
-add-t14 c = omega (arith, c .before .before .before .loop .inv .fit .each (c .before .before .before .loop .k) (c .before .before .loop-test .taken))
+mul-t19 : tie.Need-mul-t19
+mul-t19 c = omega (arith, c .before .before .before .before .before .before .before .pre .0 .few, c .before .before .if1 .left)
 
-mul-t16 : tie.Need-mul-t16 Inv-loop μ-loop
-mul-t16 c = omega arith
+shared-slice-read-t21 : tie.Need-shared-slice-read-t21
+shared-slice-read-t21 c = omega (arith, c .before .before .before .before .before .before .before .before .pre .0 .spreadsLong, c .before .before .before .if1 .left)
 
-shared-slice-read-t18 : tie.Need-shared-slice-read-t18 Inv-loop μ-loop
-shared-slice-read-t18 c = omega arith
+share-of-requires : tie.Need-share-of-requires
+share-of-requires c κs = (c .before .before .before .before .before .before .before .before .pre .0 .each _ (c .before .before .before .if1 .left), c .before .before .before .before .before .before .before .before .pre .1)
 
-div-up-requires : tie.Need-div-up-requires Inv-loop μ-loop
-div-up-requires c κs = omega (arith, c .before .before .before .before .loop .inv .fit .each (c .before .before .before .before .loop .k) (c .before .before .before .loop-test .taken))
+sub-result : tie.Need-sub-result
+sub-result c = own-inside (c .before .before .before .before .before .before .before .before .before .pre .0) _ _ _ _ (c .before .before .before .before .before .asked .ensures) (c .before .before .before .before .if1 .left) _ (c .share-of .ensures)
 
-mul-sum : tie.Need-mul-sum Inv-loop μ-loop
-mul-sum c = omega arith
-
-shared-slice-read-sum : tie.Need-shared-slice-read-sum Inv-loop μ-loop
-shared-slice-read-sum c = omega arith
-
-cast-sum-2 : tie.Need-cast-sum-2 Inv-loop μ-loop
-cast-sum-2 c = omega (arith, c .before .before .before .before .before .before .loop .inv .fit .each (c .before .before .before .before .before .before .loop .k) (c .before .before .before .before .before .loop-test .taken))
-
-cast-sum-3 : tie.Need-cast-sum-3 Inv-loop μ-loop
-cast-sum-3 c = omega arith
-
-mul-sum-2 : tie.Need-mul-sum-2 Inv-loop μ-loop
-mul-sum-2 c = omega (arith, share-fits _ _ _ _ _ _ _ _ _ (c .before .before .before .before .before .before .loop .inv) (c .before .before .before .before .before .loop-test .taken) (c .before .div-up .ensures))
-
-add-sum : tie.Need-add-sum Inv-loop μ-loop
-add-sum c = omega (arith, share-fits _ _ _ _ _ _ _ _ _ (c .before .before .before .before .before .before .loop .inv) (c .before .before .before .before .before .loop-test .taken) (c .before .div-up .ensures), c .before .before .before .before .before .before .loop .inv .high, c .before .before .before .before .before .before .loop .inv .fit .few, c .before .before .before .before .before .before .loop .inv .baseSmall)
-
-add-k : tie.Need-add-k Inv-loop μ-loop
-add-k c = omega arith
-
-loop-less : tie.Need-loop-less Inv-loop μ-loop
-loop-less c = omega arith
-
-loop-again : tie.Need-loop-again Inv-loop μ-loop
-loop-again c = summing-more _ _ _ _ _ _ _ _ _ (c .before .before .before .before .before .before .loop .inv) (c .before .before .before .before .before .loop-test .taken) (c .before .div-up .ensures)
-
-returns : tie.Need-returns Inv-loop μ-loop
-returns c = rw (summed-all _ _ _ _ _ _ _ _ (c .before .loop .inv) (c .loop-test .left)) at (c .before .loop .inv .sums)
+returns-2 : tie.Need-returns-2
+returns-2 c = demand-without (c .before .before .before .before .before .before .before .before .before .pre .0) _ _ _ _ (c .before .before .before .before .before .asked .ensures) (c .before .before .before .before .if1 .left) _ (c .share-of .ensures)
 
 pub demand-spec : {M : Type 1} → statement M
 demand-spec =
     tie.close
     (tie.spec
-    Inv-loop
-    μ-loop
-    cast-sum
-    loop-holds
+    asked-requires
+    returns
     mul-t11
     shared-slice-read-t13
-    add-t14
-    mul-t16
-    shared-slice-read-t18
-    div-up-requires
-    mul-sum
-    shared-slice-read-sum
-    cast-sum-2
-    cast-sum-3
-    mul-sum-2
-    add-sum
-    add-k
-    loop-less
-    loop-again
-    returns)
+    mul-t15
+    shared-slice-read-t17
+    mul-t19
+    shared-slice-read-t21
+    share-of-requires
+    sub-result
+    returns-2)

@@ -8,10 +8,10 @@ use Rattle.equation.proofs.solve.Statement.{statement}
 use Rattle.equation.proofs.solve.Tie as tie
 
 abbrev Inv-loop : tie.InvT-loop
-Inv-loop periods costs spreads count base own due x₀ rounds₀ limit x rounds = Turn (base .0) (loads periods costs spreads count) x₀ own due x rounds
+Inv-loop periods costs spreads own count base delay due x₀ rounds₀ limit x rounds = Turn (base .0) (loads periods costs spreads own count) x₀ delay due x rounds
 
 abbrev μ-loop : tie.MeasureT-loop
-μ-loop periods costs spreads count base own due x₀ rounds₀ limit x rounds = due - x
+μ-loop periods costs spreads own count base delay due x₀ rounds₀ limit x rounds = due - x
 
 add-if1 : tie.Need-add-if1 Inv-loop μ-loop
 add-if1 c = omega (arith, c .before .before .before .pre .1)
@@ -37,8 +37,8 @@ returns-2 c = turn-late _ _ _ _ _ _ _ (c .before .before .loop .inv) _ (c .befor
 cast-if3 : tie.Need-cast-if3 Inv-loop μ-loop
 cast-if3 c = omega arith
 
-add-t22 : tie.Need-add-t22 Inv-loop μ-loop
-add-t22 c = omega arith
+add-t23 : tie.Need-add-t23 Inv-loop μ-loop
+add-t23 c = omega arith
 
 returns-3 : tie.Need-returns-3 Inv-loop μ-loop
 returns-3 c = turn-found _ _ _ _ _ _ _ (c .before .before .before .loop .inv) _ (c .before .before .demand .ensures) (c .if3 .taken)
@@ -69,7 +69,7 @@ solve-spec =
     demand-requires
     returns-2
     cast-if3
-    add-t22
+    add-t23
     returns-3
     cast-x
     add-rounds

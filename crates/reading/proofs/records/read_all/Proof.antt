@@ -6,7 +6,7 @@ use mathlib.Core.Path.{refl, sym, _∙_}
 use lib.ListN.{length-set}
 use Rattle.model.proofs.Tests.{refuted, confirmed}
 use Rattle.reading.proofs.ColumnLaws.{Taking, sound, tasks-fit, taking-none, records-more, taking-at}
-use Rattle.reading.proofs.RecordLaws.{Reading, reading-none, record-there, start-near, task-is, clean-subtracts, record-wrong, reading-more, reading-all}
+use Rattle.reading.proofs.RecordLaws.{Reading, reading-none, record-there, start-near, task-is, clean-delays, record-wrong, reading-more, reading-all}
 use Rattle.reading.proofs.records.read_all.Statement.{statement}
 use Rattle.reading.proofs.records.read_all.Tie as tie
 
@@ -72,7 +72,7 @@ read-all-spec =
     (λ c. omega (arith, c .before .before .before .before .before .loop .inv .1 .wordsLong, c .before .before .before .before .before .loop .inv .1 .tasksFit, c .before .before .before .before .loop-test .taken, c .before .before .before .before .before .before .before .before .before .good))
     (λ c. omega (arith, c .before .before .before .before .before .loop .inv .1 .wordsLong, c .before .before .before .before .before .loop .inv .1 .tasksFit, c .before .before .before .before .loop-test .taken, c .before .before .before .before .before .before .before .before .before .good))
     slice-write-words-3
-    (λ c. omega (arith, clean-subtracts _ _ _ _ _ _ (c .before .before .before .check .ensures) (confirmed (c .before .before .is-clean .ensures) (c .before .if1 .left)) .delays))
+    (λ c. omega (arith, clean-delays _ _ _ _ _ _ (c .before .before .before .check .ensures) (confirmed (c .before .before .is-clean .ensures) (c .before .if1 .left))))
     (λ c. omega (arith, c .before .before .before .before .before .before .loop .inv .1 .wordsLong, c .before .before .before .before .before .before .loop .inv .1 .tasksFit, c .before .before .before .before .before .loop-test .taken, c .before .before .before .before .before .before .before .before .before .before .good))
     (λ c. omega (arith, c .before .before .before .before .before .before .loop .inv .1 .wordsLong, c .before .before .before .before .before .before .loop .inv .1 .tasksFit, c .before .before .before .before .before .loop-test .taken, c .before .before .before .before .before .before .before .before .before .before .good))
     (λ c. omega (arith, c .before .before .before .before .before .before .loop .inv .1 .wordsLong, c .before .before .before .before .before .before .loop .inv .1 .tasksFit, c .before .before .before .before .before .loop-test .taken, c .before .before .before .before .before .before .before .before .before .before .good))
@@ -81,7 +81,6 @@ read-all-spec =
     (λ c. omega (arith, c .before .before .before .before .before .before .loop .inv .1 .wordsLong, c .before .before .before .before .before .before .loop .inv .1 .tasksFit, c .before .before .before .before .before .loop-test .taken, c .before .before .before .before .before .before .before .before .before .before .good))
     (λ c. omega (arith, c .before .before .before .before .before .before .loop .inv .1 .wordsLong, c .before .before .before .before .before .before .loop .inv .1 .tasksFit, c .before .before .before .before .before .loop-test .taken, c .before .before .before .before .before .before .before .before .before .before .good))
     slice-write-words-5
-    (λ c. omega (arith, clean-subtracts _ _ _ _ _ _ (c .before .before .before .before .check .ensures) (confirmed (c .before .before .before .is-clean .ensures) (c .before .before .if1 .left)) .priority))
     (λ c. omega (arith, record-there _ _ _ _ _ _ _ (c .before .before .before .before .before .before .before .before .loop .inv .0) (c .before .before .before .before .before .before .before .loop-test .taken), c .before .before .before .before .before .before .before .before .before .before .before .before .good))
     (λ c. omega arith) (λ c. omega arith) loop-again
     (λ c. c .before .loop .inv .1 .bytesLong ∙ sym (c .before .before .before .before .before .pre .1 .bytesLong))

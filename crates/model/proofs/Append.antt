@@ -1,12 +1,15 @@
--- Elements of lists that are put together.
+-- Elements of lists that are put together, and lists that hold the same.
 -- Assumes nothing.
 use Prim.Native.Nat.{ℕ, zero, suc, _+_, _<_}
 use native.Mathlib.Nat.{zero-add, le-of-suc-le-suc}
 use native.Mathlib.Omega.{arith}
-use mathlib.Core.Path.{_≡_, refl, sym}
+use mathlib.Core.Path.{_≡_, refl, sym, _∙_}
 use mathlib.Core.Logic.{_⊎_, inl, inr}
 use mathlib.Core.List.{List, [], _∷_, _++_}
 use lib.ListN.{length, getD}
+use lib.Seq.{ext-getD}
+use Rattle.model.specs.Lists.{tabulate}
+use Rattle.model.proofs.Lists.{length-tabulate, getD-tabulate}
 
 module _ {A : Type 0} where
   -- an element of two lists put together is of the first or of the second
@@ -25,3 +28,11 @@ module _ {A : Type 0} where
       ((j : ℕ) → j < length ys → holds (getD ys j d)) → (j : ℕ) → j < length (xs ++ ys) → holds (getD (xs ++ ys) j d)
   each-append d holds xs ys left right j h =
       elim (append-at d xs ys j h) [ inl p ↦ rw (p .1) (left j (p .0)) | inr p ↦ rw (p .3) (right (p .0) (p .1)) ]
+
+  -- a list is what it holds at its places
+  pub list-is : (f : ℕ → A) (xs : List A) (d : A) → ((i : ℕ) → i < length xs → f i ≡ getD xs i d) → tabulate f (length xs) ≡ xs
+  list-is f xs d each =
+      ext-getD d (tabulate f (length xs)) xs (length-tabulate f (length xs))
+      (λ i h.
+      let inside : i < length xs = omega (arith, length-tabulate f (length xs)) in
+      getD-tabulate f (length xs) i d inside ∙ each i inside)
