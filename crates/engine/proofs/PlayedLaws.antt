@@ -1,15 +1,16 @@
 -- Which outcome each check of the play leads to, and what it asks of the columns.
 -- Assumes nothing.
-use Prim.Native.Nat.{ℕ, _+_, _-_, _≤_, _<_}
+use Prim.Native.Nat.{ℕ, zero, suc, _+_, _-_, _≤_, _<_}
 use native.Mathlib.Omega.{arith}
 use mathlib.Core.Path.{_≡_, refl, sym, _∙_, ap, subst}
 use mathlib.Core.Bool.{false, true}
 use mathlib.Core.List.{List}
 use lib.Dec.{eqb, ltb}
+use lib.Bits.{bitOr, and-le-l, and-le-r, or-add-and}
 use lib.ListN.{length}
 use native.Mathlib.Nat.{add-zero}
 use native.Mathlib.Numerals.{add-one}
-use borrow.Author.Tests.{eq-eqb, ne-eqb, lt-leb, lt-ltb}
+use borrow.Author.Tests.{eq-eqb, ne-eqb, lt-leb, lt-ltb, ltb-true, ltb-false}
 use Rattle.model.specs.Lists.{filled, largestTo, wordOf}
 use Rattle.model.specs.Search.{any}
 use Rattle.model.proofs.Any.{any-none, any-some}
@@ -163,11 +164,12 @@ module _ (bytes periods costs deadlines latest : List ℕ) (held : NumbersHeld b
         rows-refused some =
             refused bytes answers NotPlayable (not-plain bytes (length answers) clean (rw (ne-eqb (rowCount bytes) 0 some)))
 
-        pub delay-refused : ¬ (largestTo (wordOf latest) n ≡ 0) → Played bytes answers (verdict.Refused NotPlayable) answers
+        pub delay-refused : ltb 0 (largestTo (wordOf latest) n) ≡ true → Played bytes answers (verdict.Refused NotPlayable) answers
         delay-refused some =
             refused bytes answers NotPlayable
             (not-plain bytes (length answers) clean
-            (both-fail (eqb (rowCount bytes) 0) _ (rw (ne-eqb (largestTo (latestIn bytes) (taskCount bytes)) 0 (λ e. some (delay-is ∙ e))) refl)))
+            (both-fail (eqb (rowCount bytes) 0) _
+            (rw (ne-eqb (largestTo (latestIn bytes) (taskCount bytes)) 0 (λ e. omega (arith, ltb-true 0 (largestTo (wordOf latest) n) some, delay-is, e))) refl)))
 
         pub tie-refused : any (tiedAt (priorityIn bytes)) n ≡ true → Played bytes answers (verdict.Refused NotPlayable) answers
         tie-refused tied =
@@ -177,7 +179,7 @@ module _ (bytes periods costs deadlines latest : List ℕ) (held : NumbersHeld b
             (both-fail (eqb (largestTo (latestIn bytes) (taskCount bytes)) 0) _ (rw (ap (any (tiedAt (priorityIn bytes))) (sym counted) ∙ tied) refl))))
 
         -- what has none of them is played
-        pub all-played : rowCount bytes ≡ 0 → largestTo (wordOf latest) n ≡ 0 → any (tiedAt (priorityIn bytes)) n ≡ false → (limit : ℕ) (left : List ℕ) (v : Verdict) →
+        pub all-played : rowCount bytes ≡ 0 → ltb 0 (largestTo (wordOf latest) n) ≡ false → any (tiedAt (priorityIn bytes)) n ≡ false → (limit : ℕ) (left : List ℕ) (v : Verdict) →
             limit ≡ largestTo (wordOf deadlines) n →
             left ≡ filled (played (wordOf periods) (wordOf costs) n (upTo limit (wordOf deadlines))) n answers →
             v ≡ resultOf (wordOf left) n → Played bytes answers v left
@@ -186,7 +188,8 @@ module _ (bytes periods costs deadlines latest : List ℕ) (held : NumbersHeld b
             let accepted =
             plain-clean bytes (length answers) clean
             (both-pass (eq-eqb (rowCount bytes) 0 bare)
-            (both-pass (eq-eqb (largestTo (latestIn bytes) (taskCount bytes)) 0 (sym delay-is ∙ calm))
+            (both-pass
+            (eq-eqb (largestTo (latestIn bytes) (taskCount bytes)) 0 (omega (arith, ltb-false 0 (largestTo (wordOf latest) n) calm, delay-is)))
             (rw (ap (any (tiedAt (priorityIn bytes))) (sym counted) ∙ untied) refl))) in
             record {
               verdictIs =
@@ -223,11 +226,47 @@ module _ (answers : ℕ → ℕ) where
   pub result-all : (i n : ℕ) → resultOf answers i ≡ verdict.Schedulable → i ≤ n → n ≤ i → verdict.Schedulable ≡ resultOf answers n
   result-all i n e low high = sym e ∙ ap (resultOf answers) (omega arith)
 
+-- the words put together before place i: 0 where all of them are, and only there
+pub record Together (latest : List ℕ) (n i together : ℕ) : Type 0 where
+  pub within : i ≤ n
+  pub above : largestTo (wordOf latest) i ≤ together
+  pub calm : largestTo (wordOf latest) i ≡ 0 → together ≡ 0
+
+pub together-first : (latest : List ℕ) (n : ℕ) → Together latest n 0 0
+unfolding largestTo
+together-first latest n = record { within = omega arith; above = omega arith; calm = λ e. refl }
+
+pub together-more : {latest : List ℕ} {n i together : ℕ} → Together latest n i together → i < n →
+    Together latest n (i + 1) (bitOr together (wordOf latest i))
+unfolding largestTo
+together-more {latest} {n} {i} {together} t h =
+    let low = and-le-l together (wordOf latest i) in
+    let high = and-le-r together (wordOf latest i) in
+    let summed = or-add-and together (wordOf latest i) in
+    record {
+      within = omega arith;
+      above = rw (add-one i) (omega (arith, t .above, low, high, summed));
+      calm = rw (add-one i) (λ e. omega (arith, t .calm (omega (arith, e)), e, summed));
+    }
+
+pub together-all : {latest : List ℕ} {n i together : ℕ} → Together latest n i together → n ≤ i →
+    ltb 0 together ≡ ltb 0 (largestTo (wordOf latest) n)
+together-all {latest} {n} {i} {together} t h =
+    let all : i ≡ n = omega (arith, t .within) in
+    above-same together (largestTo (wordOf latest) i) (t .above) (t .calm) ∙ ap (λ (k : ℕ). ltb 0 (largestTo (wordOf latest) k)) all
+  where
+    above-same : (a b : ℕ) → b ≤ a → (b ≡ 0 → a ≡ 0) → ltb 0 a ≡ ltb 0 b
+    above-same zero b low calm =
+        let none : b ≡ 0 = omega arith in
+        ap (ltb 0) (sym none)
+    above-same (suc a) zero low calm = absurd (omega (arith, calm refl))
+    above-same (suc a) (suc b) low calm = lt-ltb 0 (suc a) (omega arith) ∙ sym (lt-ltb 0 (suc b) (omega arith))
+
 -- the search for a tie
 module _ (priority : ℕ → ℕ) where
   -- the first task has none before it
-  pub tie-first : any (tiedAt priority) 1 ≡ false
-  tie-first = any-none (tiedAt priority) 1 (λ k h. let first : k ≡ 0 = omega arith in rw first refl)
+  tie-first : (n : ℕ) → n < 2 → any (tiedAt priority) n ≡ false
+  tie-first n few = any-none (tiedAt priority) n (λ k h. let first : k ≡ 0 = omega arith in rw first refl)
 
   pub tie-found : (i n : ℕ) → 1 ≤ i → i < n → priority i ≡ priority (i - 1) → any (tiedAt priority) n ≡ true
   tie-found i n low h e = any-some (tiedAt priority) n i h (rw (lt-ltb 0 i low, eq-eqb (priority i) (priority (i - 1)) e) refl)
@@ -251,12 +290,16 @@ pub record Looking (bytes : List ℕ) (n i at size : ℕ) : Type 0 where
   pub here : at ≡ recordStart (layoutOf bytes) (i - 1)
   pub sized : size ≡ layoutOf bytes .size
 
+-- one task ties with none
+pub looking-alone : {bytes : List ℕ} {n : ℕ} → TableRight bytes × (n ≡ taskCount bytes) → n < 2 → false ≡ any (tiedAt (priorityIn bytes)) n
+looking-alone {bytes} {n} held few = sym (tie-first (priorityIn bytes) n few)
+
 pub looking-first : (bytes : List ℕ) (n size : ℕ) → TableRight bytes × (n ≡ taskCount bytes) → size ≡ layoutOf bytes .size → Looking bytes n 1 5 size
 looking-first bytes n size held e =
     record {
       right = held .0;
       counted = held .1;
-      none = tie-first (priorityIn bytes);
+      none = tie-first (priorityIn bytes) 1 (omega arith);
       low = omega arith;
       within = omega (arith, held .0 .head .counts taskCountField .low, held .1);
       here = omega arith;

@@ -1,8 +1,9 @@
 // Plays a table tick by tick (SPECIFICATION 9; document 02, L1 and L6): the answers and the verdict of the analysis, found another way.
 ghost use mathlib.Core.Path.{_≡_};
 ghost use Prim.Native.Nat.{_≤_};
+ghost use lib.Dec.{ltb};
 ghost use lib.ListN.{length};
-ghost use Rattle.model.specs.Lists.{wordOf};
+ghost use Rattle.model.specs.Lists.{largestTo, wordOf};
 ghost use Rattle.model.specs.Search.{any};
 ghost use Rattle.tables.specs.Layout.{taskCount, priorityIn};
 ghost use Rattle.tables.specs.Meaning.{TableRight};
@@ -51,8 +52,7 @@ fn play_columns(table: &[u8], words: &[u32], answers: &mut [u32]) -> Verdict
         return Verdict::Refused(Refusal::NotPlayable);
     }
     let latest = &words[128..160];
-    let delay = largest(latest, n);
-    if delay.0 != 0 {
+    if any_delay(latest, n) {
         return Verdict::Refused(Refusal::NotPlayable);
     }
     if any_tie(table, n) {
@@ -77,12 +77,28 @@ fn play_columns(table: &[u8], words: &[u32], answers: &mut [u32]) -> Verdict
     result(answers, n)
 }
 
+// Has a task a delay? All words are put together, which the compiler does several at a time (docs/PERFORMANCE.md).
+fn any_delay(latest: &[u32], n: usize) -> bool
+    requires { ⌜ n ≤ length (now latest) ⌝ }
+    ensures { λ r. ⌜ r ≡ ltb 0 (largestTo (wordOf (now (latest .entry))) n) ⌝ }
+{
+    let mut together: u32 = 0;
+    for i in 0..n {
+        together = together | latest[i];
+    }
+    0 < together
+}
+
 // Has a task the priority of the one before it? Priorities do not rise, so that every tie is found. They are read from the table: the engine
 // has no other use for their column, which the compiler then leaves out (docs/PERFORMANCE.md).
 fn any_tie(table: &[u8], n: usize) -> bool
     requires { ⌜ TableRight (now table) × (n ≡ taskCount (now table)) ⌝ }
     ensures { λ r. ⌜ r ≡ any (tiedAt (priorityIn (now (table .entry)))) n ⌝ }
 {
+    // a task by itself needs no layout
+    if n < 2 {
+        return false;
+    }
     let layout = tables::layout::of(table[VERSION_AT]);
     let size = layout.size;
     let mut at = HEAD_SIZE;

@@ -32,17 +32,17 @@ part-latest-start c = search needs
 part-latest-end : tie.Need-part-latest-end
 part-latest-end c = search needs
 
-largest-requires : tie.Need-largest-requires
-largest-requires c κs = search needs
+any-delay-requires : tie.Need-any-delay-requires
+any-delay-requires c κs = search needs
 
 returns-3 : tie.Need-returns-3
-returns-3 c = delay-refused _ _ _ _ _ (c .before .before .before .before .before .before .before .before .before .before .before .before .pre .1) _ (c .before .before .before .before .before .before .before .count .ensures .0) _ (c .before .before .before .before .before .before .if1 .left) (λ e. c .if3 .taken (c .before .before .largest .ensures ∙ e))
+returns-3 c = delay-refused _ _ _ _ _ (c .before .before .before .before .before .before .before .before .before .before .before .pre .1) _ (c .before .before .before .before .before .before .count .ensures .0) _ (c .before .before .before .before .before .if1 .left) (sym (c .before .any-delay .ensures) ∙ c .if3 .taken)
 
 any-tie-requires : tie.Need-any-tie-requires
-any-tie-requires c κs = (right _ _ _ _ _ (c .before .before .before .before .before .before .before .before .before .before .before .before .pre .1), c .before .before .before .before .before .before .before .count .ensures .0)
+any-tie-requires c κs = (right _ _ _ _ _ (c .before .before .before .before .before .before .before .before .before .before .before .pre .1), c .before .before .before .before .before .before .count .ensures .0)
 
 returns-4 : tie.Need-returns-4
-returns-4 c = tie-refused _ _ _ _ _ (c .before .before .before .before .before .before .before .before .before .before .before .before .before .before .pre .1) _ (c .before .before .before .before .before .before .before .before .before .count .ensures .0) _ (c .before .before .before .before .before .before .before .before .if1 .left) (sym (c .before .any-tie .ensures) ∙ c .if4 .taken)
+returns-4 c = tie-refused _ _ _ _ _ (c .before .before .before .before .before .before .before .before .before .before .before .before .before .pre .1) _ (c .before .before .before .before .before .before .before .before .count .ensures .0) _ (c .before .before .before .before .before .before .before .if1 .left) (sym (c .before .any-tie .ensures) ∙ c .if4 .taken)
 
 sub-periods : tie.Need-sub-periods
 sub-periods c = search needs
@@ -71,8 +71,8 @@ part-deadlines-start c = search needs
 part-deadlines-end : tie.Need-part-deadlines-end
 part-deadlines-end c = search needs
 
-largest-requires-2 : tie.Need-largest-requires-2
-largest-requires-2 c κs = search needs
+largest-requires : tie.Need-largest-requires
+largest-requires c κs = search needs
 
 slice-aggregate-play-all : tie.Need-slice-aggregate-play-all
 slice-aggregate-play-all c = search needs
@@ -82,11 +82,11 @@ slice-aggregate-play-all-2 c = search needs
 
 play-all-requires : tie.Need-play-all-requires
 play-all-requires c κs =
-    let held = tasks-held _ _ _ _ _ (c .before .before .before .before .before .before .before .before .before .before .before .before .before .before .before .before .before .before .before .before .before .pre .1) _ (c .before .before .before .before .before .before .before .before .before .before .before .before .before .before .before .before .count .ensures .0) in (
+    let held = tasks-held _ _ _ _ _ (c .before .before .before .before .before .before .before .before .before .before .before .before .before .before .before .before .before .before .before .before .pre .1) _ (c .before .before .before .before .before .before .before .before .before .before .before .before .before .before .before .count .ensures .0) in (
       held,
       (
-        deadlines-held _ _ _ _ _ (c .before .before .before .before .before .before .before .before .before .before .before .before .before .before .before .before .before .before .before .before .before .pre .1) _ (c .before .before .before .before .before .before .before .before .before .before .before .before .before .before .before .before .count .ensures .0),
-        (start-zeros _ 32 (held .few), (limit-high _ _ _ _ _ (c .before .before .before .before .before .before .before .before .before .before .before .before .before .before .before .before .before .before .before .before .before .pre .1) _ (c .before .before .before .before .before .before .before .before .before .before .before .before .before .before .before .before .count .ensures .0) _ (c .before .before .before .largest2 .ensures), c .before .before .before .before .before .before .before .before .before .before .before .before .before .before .before .if1 .left)),
+        deadlines-held _ _ _ _ _ (c .before .before .before .before .before .before .before .before .before .before .before .before .before .before .before .before .before .before .before .before .pre .1) _ (c .before .before .before .before .before .before .before .before .before .before .before .before .before .before .before .count .ensures .0),
+        (start-zeros _ 32 (held .few), (limit-high _ _ _ _ _ (c .before .before .before .before .before .before .before .before .before .before .before .before .before .before .before .before .before .before .before .before .pre .1) _ (c .before .before .before .before .before .before .before .before .before .before .before .before .before .before .before .count .ensures .0) _ (c .before .before .before .largest .ensures), c .before .before .before .before .before .before .before .before .before .before .before .before .before .before .if1 .left)),
       ),
     )
 
@@ -97,7 +97,7 @@ same-length : tie.Need-same-length
 same-length c = search needs
 
 returns-5 : tie.Need-returns-5
-returns-5 c = all-played _ _ _ _ _ (c .before .before .before .before .before .before .before .before .before .before .before .before .before .before .before .before .before .before .before .before .before .before .before .before .before .before .before .before .pre .1) _ (c .before .before .before .before .before .before .before .before .before .before .before .before .before .before .before .before .before .before .before .before .before .before .before .count .ensures .0) _ (c .before .before .before .before .before .before .before .before .before .before .before .before .before .before .before .before .before .before .before .before .before .before .if1 .left) (c .before .before .before .before .before .before .before .before .before .before .before .before .before .before .before .before .before .before .before .before .if2 .left) (sym (c .before .before .before .before .before .before .before .before .before .before .before .before .before .before .before .before .before .before .largest .ensures) ∙ c .before .before .before .before .before .before .before .before .before .before .before .before .before .before .before .before .if3 .left) (sym (c .before .before .before .before .before .before .before .before .before .before .before .before .before .before .before .any-tie .ensures) ∙ c .before .before .before .before .before .before .before .before .before .before .before .before .before .before .if4 .left) _ _ _ (c .before .before .before .before .before .before .before .before .before .before .largest2 .ensures) (c .before .before .before .before .before .before .play-all .ensures .1) (c .result .ensures)
+returns-5 c = all-played _ _ _ _ _ (c .before .before .before .before .before .before .before .before .before .before .before .before .before .before .before .before .before .before .before .before .before .before .before .before .before .before .before .pre .1) _ (c .before .before .before .before .before .before .before .before .before .before .before .before .before .before .before .before .before .before .before .before .before .before .count .ensures .0) _ (c .before .before .before .before .before .before .before .before .before .before .before .before .before .before .before .before .before .before .before .before .before .if1 .left) (c .before .before .before .before .before .before .before .before .before .before .before .before .before .before .before .before .before .before .before .if2 .left) (sym (c .before .before .before .before .before .before .before .before .before .before .before .before .before .before .before .before .before .any-delay .ensures) ∙ c .before .before .before .before .before .before .before .before .before .before .before .before .before .before .before .before .if3 .left) (sym (c .before .before .before .before .before .before .before .before .before .before .before .before .before .before .before .any-tie .ensures) ∙ c .before .before .before .before .before .before .before .before .before .before .before .before .before .before .if4 .left) _ _ _ (c .before .before .before .before .before .before .before .before .before .before .largest .ensures) (c .before .before .before .before .before .before .play-all .ensures .1) (c .result .ensures)
 
 pub play-columns-spec : {M : Type 1} → statement M
 play-columns-spec =
@@ -111,7 +111,7 @@ play-columns-spec =
     sub-latest
     part-latest-start
     part-latest-end
-    largest-requires
+    any-delay-requires
     returns-3
     any-tie-requires
     returns-4
@@ -124,7 +124,7 @@ play-columns-spec =
     sub-deadlines
     part-deadlines-start
     part-deadlines-end
-    largest-requires-2
+    largest-requires
     slice-aggregate-play-all
     slice-aggregate-play-all-2
     play-all-requires
