@@ -1,7 +1,8 @@
 /* plain.c: the analysis of document 01 and of document 02's L4 to L6 as one would write it in C,
  * without proofs: decoded once into local arrays, one divide for each load and round, and no
  * cleverness beyond that. Compiled with -DSKIP_DIVIDE it leaves out the divides that L2 does
- * without. plain_own_cost.c compiles it with OWN_COST, for L5's other start. */
+ * without. Compiled with -DMARKS it keeps a mark for each load, as our library does.
+ * plain_own_cost.c compiles it with OWN_COST, for L5's other start. */
 #include "plain.h"
 #include "plain_table.h"
 
@@ -25,6 +26,103 @@ static uint32_t blocking(const struct tasks *tasks, const struct rows *rows, siz
             longest = rows->length[r];
     return longest;
 }
+
+#ifdef MARKS
+
+/* The loads' marks: a load's mark is the last window, raised by the greatest spread, for which the
+ * number of its periods begun holds. */
+enum { RAISE = MOST_TICKS };
+
+static uint32_t first_mark(const struct tasks *tasks, size_t j)
+{
+    return tasks->T[j] + (RAISE - tasks->spread[j]);
+}
+
+static uint32_t least_first(const struct tasks *tasks)
+{
+    uint32_t least = UINT32_MAX;
+
+    for (size_t j = 0; j < tasks->n; j++)
+        if (first_mark(tasks, j) < least)
+            least = first_mark(tasks, j);
+    return least;
+}
+
+/* Each task before the end has begun one period; task i is none of its own loads. The 0 behind the
+ * marks ends every search. */
+static void set_first(const struct tasks *tasks, size_t i, size_t end, uint32_t *marks)
+{
+    for (size_t j = 0; j < end; j++)
+        marks[j] = first_mark(tasks, j);
+    marks[end] = 0;
+    if (i < end)
+        marks[i] = UINT32_MAX;
+}
+
+static size_t next_below(const uint32_t *marks, uint32_t least, size_t j)
+{
+    while (marks[j] >= least)
+        j++;
+    return j;
+}
+
+/* Moves the marks that the window has passed. It gives the sum, and the least mark, which is looked
+ * for up to so many ticks ahead. */
+static uint64_t pass(const struct tasks *tasks, size_t end, uint32_t window, uint32_t ahead,
+                     uint64_t sum, uint32_t *marks, uint32_t *least)
+{
+    uint32_t lowest = window + ahead;
+
+    for (size_t j = next_below(marks, lowest, 0); j < end; j = next_below(marks, lowest, j + 1)) {
+        if (marks[j] < window) {
+            uint32_t over = window - marks[j], begun = 1;
+
+            if (over > tasks->T[j])
+                begun = (over - 1) / tasks->T[j] + 1;
+            sum += (uint64_t)begun * tasks->C[j];
+            marks[j] += begun * tasks->T[j];
+        }
+        if (marks[j] < lowest)
+            lowest = marks[j];
+    }
+    *least = lowest;
+    return sum;
+}
+
+/* The answer of task i, and its rounds from that start; once is base and one cost of each load. */
+static uint32_t respond(const struct tasks *tasks, size_t i, size_t end, uint32_t once,
+                        uint32_t start, uint32_t least, uint32_t *rounds)
+{
+    uint32_t window = start, done = 1, answer = 0;
+    uint32_t ahead = least > RAISE ? least - RAISE : 0;
+    uint32_t marks[MOST_TASKS + 1];
+    uint64_t sum = once;
+
+    if (start + tasks->latest[i] > tasks->D[i]) {
+        *rounds = 1;
+        return 0;
+    }
+    if (start == once && start + RAISE <= least) {
+        *rounds = 1;
+        return start + tasks->latest[i];
+    }
+    set_first(tasks, i, end, marks);
+    for (;; done++) {
+        if (window + RAISE > least)
+            sum = pass(tasks, end, window + RAISE, ahead, sum, marks, &least);
+        if (sum + tasks->latest[i] > tasks->D[i])
+            break;
+        if (sum == window) {
+            answer = window + tasks->latest[i];
+            break;
+        }
+        window = (uint32_t)sum;
+    }
+    *rounds = done;
+    return answer;
+}
+
+#else
 
 /* n / d rounded up, for n of at least 1. */
 static uint32_t divide_up(uint32_t n, uint32_t d)
@@ -77,6 +175,8 @@ static uint32_t respond(const struct tasks *tasks, size_t i, size_t end, uint32_
     return answer;
 }
 
+#endif
+
 uint64_t ENTRY(const uint8_t *table, size_t table_len,
                uint32_t *answers, size_t answers_len,
                uint32_t *rounds, size_t rounds_len)
@@ -85,12 +185,18 @@ uint64_t ENTRY(const uint8_t *table, size_t table_len,
     struct rows rows;
     size_t end = 0;
     uint32_t costs = 0; /* one of every task before the end */
+#ifdef MARKS
+    uint32_t least;
+#endif
     uint64_t result = read_table(table, table_len, &tasks, &rows);
 
     if (result)
         return result;
     if (answers_len < tasks.n || rounds_len < tasks.n)
         return verdict(8, 0);
+#ifdef MARKS
+    least = least_first(&tasks);
+#endif
 
     for (size_t i = 0; i < tasks.n; i++) {
         uint32_t base, start;
@@ -105,7 +211,11 @@ uint64_t ENTRY(const uint8_t *table, size_t table_len,
 #else
         start = base + costs - tasks.C[i];
 #endif
+#ifdef MARKS
+        answers[i] = respond(&tasks, i, end, base + costs - tasks.C[i], start, least, &rounds[i]);
+#else
         answers[i] = respond(&tasks, i, end, base, start, &rounds[i]);
+#endif
         if (answers[i] == 0 && result == 0)
             result = verdict(LATE, i);
     }

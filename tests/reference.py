@@ -3183,18 +3183,32 @@ def most_loads_table():
     return Draft(crowded_tasks((3, 11, 2, 14, 232))).data()
 
 
-def slowest_table():
-    """The greatest cost that a search over the periods found: 41,778,441 loads. In 22,860,538 of
-    them the window is longer than the period, so that they need a divide (document 02, L2)."""
+def once_slowest_table():
+    """The greatest cost that a search over the periods found while each round asked every load anew:
+    41,778,441 loads. In 22,860,538 of them the window is longer than the period, so that they needed
+    a divide (document 02, L2)."""
     return Draft(crowded_tasks((2, 11, 236, 3, 14, 136041, 32704, 57648, 167220, 143363, 185372,
                                 221486))).data()
 
 
-def slowest_group_table():
-    """The greatest cost that a search over periods and groups found, where all tasks share one
-    priority: 85,157,620 loads, of which 33,281,628 need a divide."""
+def once_slowest_group_table():
+    """The greatest cost that a search over periods and groups found then, where all tasks share one
+    priority: 85,157,620 loads, of which 33,281,628 needed a divide."""
     tasks = crowded_tasks((2, 3, 11, 14, 236, 33040, 59107, 152549, 265660, 423753, 434143, 441049,
                            464787, 967704, 970178))
+    return Draft(in_groups(tasks, MOST_TASKS)).data()
+
+
+def slowest_table():
+    """The greatest cost that a search over periods, costs and their order found since the loads have
+    marks."""
+    return Draft(crowded_tasks((231, 14, 11, 3, 2))).data()
+
+
+def slowest_group_table():
+    """The same, where all tasks share one priority."""
+    tasks = crowded_tasks((468053, 152574, 236, 59309, 424177, 976419, 272160, 441050, 11, 434141,
+                           970177, 33070, 14, 3, 2))
     return Draft(in_groups(tasks, MOST_TASKS)).data()
 
 
@@ -3237,6 +3251,8 @@ def group_classes():
     draft = Draft(in_groups(loaded_tasks(MOST_TASKS, 30), MOST_TASKS))
     yield Measured("32-one-priority", 100, 200, "32 tasks of one priority, light (30%)",
                    draft.data())
+    yield Measured("once-slowest-one-priority", 1, 2,
+                   "32 tasks of one priority, the slowest before marks", once_slowest_group_table())
     yield Measured("slowest-one-priority", 1, 2,
                    "32 tasks of one priority, the slowest table found", slowest_group_table())
 
@@ -3244,6 +3260,8 @@ def group_classes():
 def measured_classes():
     yield from load_classes()
     yield Measured("most-loads", 1, 2, "32 tasks, the most loads found", most_loads_table())
+    yield Measured("once-slowest", 1, 2, "32 tasks, the slowest before marks",
+                   once_slowest_table())
     yield Measured("slowest", 1, 2, "32 tasks, the slowest table found", slowest_table())
     yield from refusal_classes()
     yield from delay_classes()
@@ -3287,7 +3305,8 @@ def playable_classes():
     for measured in load_classes():
         if not measured.name.endswith("-rows"):
             yield Playable(measured.name, measured.title, measured.data)
-    yield Playable("analysis-slowest", "the slowest table found for the analysis", slowest_table())
+    yield Playable("analysis-slowest", "the analysis's slowest table before marks",
+                   once_slowest_table())
     yield every_tick_class("one-due", 1)
     yield every_tick_class("slowest", MOST_TASKS - 1)
     yield MANY_TICKS

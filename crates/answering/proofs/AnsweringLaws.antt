@@ -19,9 +19,12 @@ use Rattle.tables.specs.Refusals.{at}
 use Rattle.equation.specs.declared.Start.{Start}
 use Rattle.equation.specs.declared.Start.the-variants.{EveryCost, OwnCost}
 use Rattle.equation.specs.Slices.{loads, loadAt, LoadsFit}
+use Rattle.solver.specs.Marks.{PeriodsHigh, firstMarkAt, leastFrom, never, Begun}
 use Rattle.equation.proofs.SliceLaws.{loads-less}
+use Rattle.solver.proofs.PassLaws.{least-low}
+use Rattle.solver.proofs.MarkLaws.{marksFit}
 use Rattle.equation.specs.Laws.{NotAbove, costOf}
-use Rattle.equation.specs.Solver.{Solvable, SolvedBy}
+use Rattle.solver.specs.Solver.{Solvable, SolvedBy}
 use Rattle.equation.specs.Starts.{firstTerm, startFrom}
 use Rattle.equation.proofs.StartLaws.{bothStarts, periods-low, costs-others}
 use Rattle.blocking.specs.Slices.{sectionAt}
@@ -117,9 +120,11 @@ module _ (d : Decoded) (n : ℕ) where
           costs-high (d .priorities) (d .costs) n (f .ranked) (groupEnd (d .priorities) n i) (end-within (d .priorities) (d .costs) n (f .ranked) i),
         )
 
+    pub count-high : count ≤ n
+    count-high = count-within (d .priorities) (d .costs) n (f .ranked) i beforeEnd beforeSum count all end sum h found
+
     pub loads-fit : LoadsFit (d .periods) (d .costs) (d .spreads) count
-    loads-fit =
-        loads-less (f .loadsFit) (count-within (d .priorities) (d .costs) n (f .ranked) i beforeEnd beforeSum count all end sum h found)
+    loads-fit = loads-less (f .loadsFit) count-high
 
     module _ (held : ℕ) (is : held ≡ largestTo (sectionAt (d .owners) (d .tops) (d .longest) (getD (d .priorities) i 0)) (d .rows)) where
       -- the first term fits a word
@@ -152,6 +157,31 @@ module _ (d : Decoded) (n : ℕ) where
               lateHigh = f .latestHigh i h;
               deadlineHigh = f .deadlineHigh i h;
             })
+
+        -- either start is at least the own cost
+        first-low : (s : Start) → 1 ≤ firstTerm s (getD (d .costs) i 0 + held) (all - getD (d .costs) i 0)
+        first-low EveryCost = omega (arith, f .costLow i h)
+        first-low OwnCost = omega (arith, f .costLow i h)
+
+        -- what the solver knows before its first round
+        pub begun : PeriodsHigh (d .periods) n → (least : ℕ) → least ≡ leastFrom never (firstMarkAt (d .periods) (d .spreads)) n →
+            Begun (d .periods) (d .spreads) count (loads (d .periods) (d .costs) (d .spreads) i count) (getD (d .costs) i 0 + held)
+            (all - getD (d .costs) i 0) first least
+        begun tall least e =
+            record {
+              periodHigh = λ k l. tall k (omega (arith, count-high));
+              othersAre = others-are ∙ ap (sumOf costOf) (sym loads-are);
+              onceHigh = first-fits;
+              startLow = omega (arith, firstIs, first-low start);
+              leastHigh =
+                  omega (
+                    arith,
+                    e,
+                    least-low never (firstMarkAt (d .periods) (d .spreads)) n i h,
+                    marksFit .first (getD (d .periods) i 0) (getD (d .spreads) i 0) (tall i h),
+                  );
+              leastLow = λ k l. omega (arith, e, count-high, least-low never (firstMarkAt (d .periods) (d .spreads)) n k (omega (arith, count-high)));
+            }
 
         module _ (late : Bool) (response spent : ℕ)
             (solved : SolvedBy (getD (d .costs) i 0 + held) (loads (d .periods) (d .costs) (d .spreads) i count) first (getD (d .latest) i 0) (getD (d .deadlines) i 0) late response spent) where

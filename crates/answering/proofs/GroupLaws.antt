@@ -16,13 +16,8 @@ use Rattle.model.specs.Tables.{Load, interferes, isOther}
 use Rattle.model.proofs.Tests.{leb?, eqb?, both-fail, both-unit}
 use Rattle.model.proofs.Gather.{gather-same, gather-rest, gather-fail}
 use Rattle.model.proofs.Loads.{total-other, other-own}
+use Rattle.model.proofs.Totals.{total-high}
 use Rattle.answering.specs.Slices.{groupEnd, Ranked, GroupBefore, GroupFound}
-
--- a sum of numbers within a limit
-total-high : (f : ℕ → ℕ) (n high : ℕ) → ((k : ℕ) → k < n → f k ≤ high) → total f n ≤ n * high
-unfolding total
-total-high f zero high each = omega arith
-total-high f (suc n) high each = omega (arith, total-high f n high (λ k l. each k (omega arith)), each n (omega arith))
 
 -- the first `end` of n tasks are at least as urgent as the one at place i, and the others are not
 record Cut (priorities : List ℕ) (n i end : ℕ) : Type 0 where

@@ -4,16 +4,18 @@ ghost use Prim.Native.Nat.{_+_, _≤_, _<_};
 ghost use lib.ListN.{length};
 ghost use Rattle.model.specs.Choice.{pick};
 ghost use Rattle.model.specs.Lists.{total, wordOf};
+ghost use Rattle.solver.specs.Marks.{PeriodsHigh};
 ghost use Rattle.answering.specs.declared.Verdict.the-variants.{Late};
 ghost use Rattle.answering.specs.Results.{isSchedulable};
 ghost use Rattle.answering.specs.Slices.{decoded, DecodedFits, Ranked, GroupBefore, GroupFound, slice, Answered};
 use blocking::blocking;
 use equation::Start;
 use equation::first_term;
-use equation::solve;
 use model::Place;
 use model::Priority;
 use model::Ticks;
+use solver::least_first;
+use solver::solve;
 use tables::Refusal;
 
 // What is said of a table.
@@ -102,7 +104,8 @@ fn group_of(
     }
 }
 
-// Answers and rounds of the n tasks, each from its own first term on. Groups and their costs are found along the way.
+// Answers and rounds of the n tasks, each from its own first term on. Groups and their costs are found along the way. The words of `marks` are
+// scratch, one for each task and one more, made once for a table.
 pub fn answer_all(
     start: Start,
     priorities: &[u8],
@@ -118,8 +121,10 @@ pub fn answer_all(
     m: usize,
     answers: &mut [u32],
     rounds: &mut [u32],
+    marks: &mut [u32],
 ) -> Verdict
     requires { ⌜ DecodedFits (decoded (now priorities) (now periods) (now costs) (now deadlines) (now spreads) (now latest) (now owners) (now tops) (now longest) m) n ⌝ }
+    requires { ⌜ PeriodsHigh (now periods) n × (n < length (now marks)) ⌝ }
     requires { ⌜ (n ≤ length (now answers)) × (n ≤ length (now rounds)) ⌝ }
     ensures { λ r. ⌜ Answered start (decoded (now (priorities .entry)) (now (periods .entry)) (now (costs .entry)) (now (deadlines .entry)) (now (spreads .entry)) (now (latest .entry)) (now (owners .entry)) (now (tops .entry)) (now (longest .entry)) m) n r (slice (now (answers .entry)) (now (answers .exit))) (slice (now (rounds .entry)) (now (rounds .exit))) ⌝ }
 {
@@ -131,6 +136,7 @@ pub fn answer_all(
     };
     let mut reached = Ticks(0);
     let mut verdict = Verdict::Schedulable;
+    let least = least_first(periods, spreads, n);
     for i in 0..n {
         let cost = Ticks(costs[i]);
         reached = Ticks(reached.0 + cost.0);
@@ -145,9 +151,12 @@ pub fn answer_all(
             i,
             group.count,
             base,
+            others,
             first_term(start, base, others),
+            least,
             Ticks(latest[i]),
             Ticks(deadlines[i]),
+            marks,
         );
         answers[i] = solved.response.0;
         rounds[i] = solved.rounds;

@@ -5,4 +5,3 @@ pub mod SequenceLaws
 pub mod SliceLaws
 pub mod Laws
 pub mod StartLaws
-pub mod SolverLaws

@@ -4,5 +4,4 @@ pub mod Answer
 pub mod Sequence
 pub mod Slices
 pub mod Laws
-pub mod Solver
 pub mod Starts

@@ -5,7 +5,6 @@ ghost use Rattle.equation.specs.Rounding.{ceilDiv};
 ghost use Rattle.equation.specs.Demand as spec;
 ghost use Rattle.equation.specs.Demand.{share};
 ghost use Rattle.equation.specs.Slices.{load, loadsTo, loads, LoadFits, LoadsFit};
-ghost use Rattle.equation.specs.Solver.{Solvable, SolvedBy};
 ghost use Rattle.equation.specs.Starts.{firstTerm};
 use model::Ticks;
 
@@ -96,61 +95,4 @@ pub fn demand(
             Ticks(spreads[own]),
             w,
         )
-}
-
-// Whether a task is late, its longest response time, 0 where it is, and the rounds spent on it.
-pub struct Solved {
-    pub late: bool,
-    pub response: Ticks,
-    pub rounds: u32,
-}
-
-// Follows the written sequence from `start` to its first equal or late term. A start that is late is answered without a sum, since
-// the next term is no smaller.
-pub fn solve(
-    periods: &[u32],
-    costs: &[u32],
-    spreads: &[u32],
-    own: usize,
-    count: usize,
-    base: Ticks,
-    start: Ticks,
-    late: Ticks,
-    deadline: Ticks,
-) -> Solved
-    requires { ⌜ LoadsFit (now periods) (now costs) (now spreads) count ⌝ }
-    requires { ⌜ Solvable (base .0) (loads (now periods) (now costs) (now spreads) own count) (start .0) (late .0) (deadline .0) ⌝ }
-    ensures { λ r. ⌜ SolvedBy (base .0) (loads (now (periods .entry)) (now (costs .entry)) (now (spreads .entry)) own count) (start .0) (late .0) (deadline .0) (r .late) (r .response .0) (r .rounds) ⌝ }
-{
-    let delay = late.0;
-    let due = deadline.0;
-    let mut x = start.0;
-    let mut rounds: u32 = 1;
-    if due < x + delay {
-        return Solved {
-            late: true,
-            response: Ticks(0),
-            rounds,
-        };
-    }
-    let limit = (due - delay) as u64;
-    loop {
-        let next = demand(periods, costs, spreads, own, count, base, Ticks(x));
-        if limit < next {
-            return Solved {
-                late: true,
-                response: Ticks(0),
-                rounds,
-            };
-        }
-        if next == x as u64 {
-            return Solved {
-                late: false,
-                response: Ticks(x + delay),
-                rounds,
-            };
-        }
-        x = next as u32;
-        rounds += 1;
-    }
 }

@@ -9,3 +9,4 @@ pub mod Append
 pub mod Gather
 pub mod Loads
 pub mod Any
+pub mod Totals

@@ -21,6 +21,7 @@ use Rattle.tables.proofs.LayoutLaws.{layout-sound, task-is, priority-at, tasks-
 use Rattle.reading.proofs.ColumnLaws.{holds-filled}
 use Rattle.reading.proofs.HeldLaws.{held-right}
 use Rattle.equation.specs.declared.Start.{Start}
+use Rattle.solver.specs.Marks.{PeriodsHigh}
 use Rattle.equation.specs.Slices.{loadAt}
 use Rattle.blocking.specs.Ceilings.{section, blockingOf}
 use Rattle.blocking.specs.Slices.{ownerAt, topAt, sectionAt, RowsHeld}
@@ -55,12 +56,16 @@ room-is n k answers rounds e p =
 pub room-for : {n k answers rounds : ℕ} → n ≡ k → (k ≤ answers) × (k ≤ rounds) → (n ≤ answers) × (n ≤ rounds)
 room-for e room = (omega (arith, room .0), omega (arith, room .1))
 
+-- a table that the columns for 32 tasks hold has no more
+pub few-tasks : {bytes lent words : List ℕ} {rows : RowColumn → List ℕ} → TableHeld 1 bytes (recordColumns 32 lent words) rows → taskCount bytes ≤ 32
+few-tasks {bytes} {lent} held = omega (arith, held .ofRecords priorityColumn .long, length-take 32 lent)
+
 -- the priorities, in the bytes that they stand in front of
 pub ranks-held : {bytes lent words : List ℕ} → Lent bytes 32 lent words → {rows : RowColumn → List ℕ} →
     TableHeld 1 bytes (recordColumns 32 lent words) rows → Ranks bytes lent
 ranks-held {bytes} {lent} room held =
     let column = held .ofRecords priorityColumn in
-    let few : taskCount bytes ≤ 32 = omega (arith, column .long, length-take 32 lent) in
+    let few = few-tasks held in
     record {
       behind = omega (arith, few, room .bytesLong);
       read = λ k h. sym (getD-take 32 lent k 0 (omega arith)) ∙ column .read k h;
@@ -93,6 +98,10 @@ module _ (bytes : List ℕ) (records : RecordColumn → List ℕ) (rows : RowCol
             rw (held .ofRows placeColumn .read k (row-inside h)) (omega (arith, place-inside k h, ranksHeld .behind, tasksCounted));
         semaphoresLow = λ k h. rw (held .ofRows semaphoreColumn .read k (row-inside h)) (right .rows k (row-inside h) semaphoreField .high);
       }
+
+  -- no period is above its limit
+  pub periods-high : PeriodsHigh (records periodColumn) n
+  periods-high k h = rw (held .ofRecords periodColumn .read k (inside h)) (right .records k (inside h) periodField .high)
 
   -- what the ceilings ask
   pub may-span : RowsHeld ranks (rows placeColumn) (rows semaphoreColumn) m × ((m ≤ 64) × (m ≤ 64))

@@ -109,6 +109,8 @@ fn answer(
     let mut owners = [0u8; 64];
     let mut tops = [0u8; 64];
     blocking::spans(bytes, places, semaphores, m, &mut owners, &mut tops);
+    // a mark for each of 32 tasks, and one more
+    let mut marks = [0u32; 33];
     // of the words: periods, costs, deadlines, spreads, latest delays; at the end the longest sections
     answer_all(
         start,
@@ -125,6 +127,7 @@ fn answer(
         m,
         answers,
         rounds,
+        &mut marks,
     )
 }
 

@@ -15,7 +15,8 @@ use Rattle.model.specs.Lists.{total}
 use Rattle.model.proofs.Tests.{bool?, on-high}
 use Rattle.runs.specs.Jobs.{Job, jobOf}
 use Rattle.runs.specs.Schedule.{Service, idle, serves, Schedule, countFor, servedBefore, Finished, Ready}
-use Rattle.runs.proofs.Sums.{total-mono, total-same, total-add, total-zero, total-point, total-tight}
+use Rattle.model.proofs.Totals.{total-mono, total-same, total-add}
+use Rattle.runs.proofs.Sums.{total-zero, total-point, total-tight}
 use Rattle.runs.proofs.Windows.{within, within-is, within?, released, released-split, needOf}
 use Rattle.runs.proofs.Served.{ServesReady, served-grows, served-most, served-none, count-own, count-other}
 

@@ -12,7 +12,8 @@ use lib.ListN.{length}
 use borrow.Author.Tests.{eqb-true}
 use Rattle.model.specs.Tables.{Task, taskOf}
 use Rattle.runs.specs.Jobs.{Job, jobOf, LegalJobs}
-use Rattle.runs.proofs.Sums.{total-mono, total-once, total-times}
+use Rattle.model.proofs.Totals.{total-mono}
+use Rattle.runs.proofs.Sums.{total-once, total-times}
 use Rattle.runs.proofs.Windows.{within, IsWithin, within-is, within?, released, released-split, released-empty, needOf, one, isOf}
 
 module _ (tasks : List Task) (ticks : ℕ) (jobs : List Job) (legal : LegalJobs tasks ticks jobs) where

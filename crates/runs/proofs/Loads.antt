@@ -15,7 +15,7 @@ use Rattle.model.proofs.Gather.{gather-sum}
 use Rattle.equation.specs.Rounding.{ceilDiv}
 use Rattle.equation.specs.Demand.{share, demand}
 use Rattle.runs.specs.Jobs.{NoDelay}
-use Rattle.runs.proofs.Sums.{total-same}
+use Rattle.model.proofs.Totals.{total-same}
 
 -- what the task at place p asks for in w ticks
 abbrev pub shareOf : List Task → ℕ → ℕ → ℕ

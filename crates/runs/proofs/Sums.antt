@@ -13,22 +13,8 @@ use Rattle.model.specs.Choice.{both, on}
 use Rattle.model.specs.Lists.{sumOf, total}
 use Rattle.model.specs.Tables.{isOther}
 use Rattle.model.proofs.Tests.{bool?}
+use Rattle.model.proofs.Totals.{total-mono, total-same, total-add}
 use Rattle.model.proofs.Loads.{other-own, other-is}
-
-pub total-mono : (f g : ℕ → ℕ) (n : ℕ) → ((k : ℕ) → k < n → f k ≤ g k) → total f n ≤ total g n
-unfolding total
-total-mono f g zero h = le-refl 0
-total-mono f g (suc n) h = omega (arith, total-mono f g n (λ k l. h k (omega arith)), h n (lt-suc-self n))
-
-pub total-same : (f g : ℕ → ℕ) (n : ℕ) → ((k : ℕ) → k < n → f k ≡ g k) → total f n ≡ total g n
-unfolding total
-total-same f g zero h = refl
-total-same f g (suc n) h = omega (arith, total-same f g n (λ k l. h k (omega arith)), h n (lt-suc-self n))
-
-pub total-add : (f g : ℕ → ℕ) (n : ℕ) → total (λ k. f k + g k) n ≡ total f n + total g n
-unfolding total
-total-add f g zero = refl
-total-add f g (suc n) = omega (arith, total-add f g n)
 
 pub total-times : (c : ℕ) (f : ℕ → ℕ) (n : ℕ) → total (λ k. c * f k) n ≡ c * total f n
 unfolding total

@@ -20,7 +20,7 @@ use Rattle.equation.proofs.Laws.{roundingUp}
 use Rattle.runs.specs.Jobs.{Job, jobOf, TasksFit}
 use Rattle.runs.specs.Schedule.{Service, idle, serves, Schedule, Finished, Ready, LegalSchedule}
 use Rattle.runs.specs.Synchronous.{synchronous, stillNeeded, workLeft, FirstJob}
-use Rattle.runs.proofs.Sums.{total-same, total-add}
+use Rattle.model.proofs.Totals.{total-same, total-add}
 use Rattle.runs.proofs.Windows.{within, needOf, isOf}
 use Rattle.runs.proofs.Served.{ServesReady, served-most, served-none}
 use Rattle.runs.proofs.BusyWindow.{Quiet, asked, worked, workedOn, added, added-idle, added-serves, worked-next, quiet-asked, quiet-next, asked-quiet}

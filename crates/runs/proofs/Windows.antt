@@ -14,7 +14,8 @@ use Rattle.model.specs.Choice.{pick, both, on}
 use Rattle.model.specs.Lists.{total}
 use Rattle.model.proofs.Tests.{bool?, leb?, ltb?}
 use Rattle.runs.specs.Jobs.{Job, jobOf}
-use Rattle.runs.proofs.Sums.{total-mono, total-same, total-add, total-zero, total-apart, total-swap, total-on}
+use Rattle.model.proofs.Totals.{total-mono, total-same, total-add}
+use Rattle.runs.proofs.Sums.{total-zero, total-apart, total-swap, total-on}
 
 -- a job's weight, if it is of the set and released in the ticks from `from` and before `to`; else 0
 unfoldable pub within : (Job → Bool) → (Job → ℕ) → ℕ → ℕ → Job → ℕ

@@ -11,13 +11,13 @@ use borrow.Author.Tests.{eq-eqb, lt-ltb, ne-eqb, le-ltb}
 use Rattle.model.specs.Tables.{Load}
 use Rattle.model.proofs.Search as search-laws
 use Rattle.model.proofs.Tests.{either-left, either-right, either-neither}
 use Rattle.equation.specs.Demand.{demand}
 use Rattle.equation.specs.Sequence.{term, stops, rounds}
 use Rattle.equation.specs.Laws.{IsSmallest}
-use Rattle.equation.specs.Solver.{Solvable, SolvedBy}
+use Rattle.solver.specs.Solver.{Solvable, SolvedBy}
 use Rattle.equation.proofs.Laws.{answerMeans, roundsBound}
 use Rattle.equation.proofs.SequenceLaws.{never-falls, start-rises}
 use Rattle.equation.proofs.StartLaws.{solution-smallest, all-late}
 
 module _ (base : ℕ) (loads : List Load) (start late deadline : ℕ) where
   -- before round k: x is the term before it, no round was the last, and each has gained at least one tick

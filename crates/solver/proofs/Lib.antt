@@ -1,0 +1,4 @@
+pub mod SolverLaws
+pub mod PassLaws
+pub mod MarkLaws
+pub mod RoundLaws

@@ -1,0 +1,3 @@
+pub mod Solver
+pub mod Marks
+pub mod Invariant
