@@ -15,7 +15,7 @@ use Rattle.model.proofs.Filling.{Filling, filling-none, filling-more, filling-o
 use Rattle.model.proofs.Loads.{other-own, other-is}
 use Rattle.model.proofs.Totals.{total-none, total-more, total-high}
 use Rattle.equation.specs.Rounding.{ceilDiv}
-use Rattle.solver.specs.Marks.{never, firstMarkAt, firstMarkFor, leastFrom, begunPast, movedMark, movedAt, moreAt, NextBelow, Passable, Passed}
+use Rattle.solver.specs.Marks.{never, firstMarkAt, firstMarkFor, leastFrom, begunPast, movedMark, movedAt, moreAt, NextBelow, OnlyNext, Passable, Passed}
 use Rattle.equation.proofs.RoundingLaws.{enough, least, at-zero, at-most, positive}
 
 -- the least of a row of numbers
@@ -66,6 +66,15 @@ module _ (marks : List ℕ) (end low from : ℕ) where
         since = omega (arith, s .since);
         first = λ j f m. elim (ℕ-discrete j k) [ yes e ↦ rw e h | no e ↦ s .first j f (omega arith) ];
       }
+
+-- no second place is found: where one of two came first, the other would have passed it over
+not-before : (marks : List ℕ) (least from found other : ℕ) → NextBelow marks least from found → NextBelow marks least from other → other ≤ found
+not-before marks least from found other a b =
+    elim (decLe other found) [ yes h ↦ h | no h ↦ absurd (omega (arith, a .below, b .first found (a .low) (omega arith))) ]
+
+pub onlyNext : OnlyNext
+onlyNext marks least from found other a b =
+    omega (arith, not-before marks least from found other a b, not-before marks least from other found b a)
 
 -- one mark: none, one or more periods are begun as w comes
 module _ (w period mark : ℕ) (low : 1 ≤ period) where

@@ -67,6 +67,10 @@ pub record NextBelow (marks : List ℕ) (least from found : ℕ) : Type 0 where
   pub below : wordOf marks found < least
   pub first : (k : ℕ) → from ≤ k → k < found → least ≤ wordOf marks k
 
+-- and there is no second one
+abbrev pub OnlyNext : Type 0
+OnlyNext = (marks : List ℕ) (least from found other : ℕ) → NextBelow marks least from found → NextBelow marks least from other → found ≡ other
+
 -- What is asked of the slices and numbers of one pass over `count` marks: within the limits, and 0 behind the last mark, which ends a search.
 pub record Passable (periods costs marks : List ℕ) (count w ahead sum : ℕ) : Type 0 where
   pub few : count ≤ 200
