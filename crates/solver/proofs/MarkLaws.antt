@@ -13,7 +13,7 @@ use Rattle.model.proofs.Totals.{total-same, total-add}
 use Rattle.equation.specs.Demand.{demand, share}
 use Rattle.equation.specs.Laws.{costOf}
 use Rattle.equation.proofs.RoundingLaws as rounding
-use Rattle.solver.specs.Marks.{raise, never, firstMark, begunPast, movedMark}
+use Rattle.solver.specs.Marks.{raise, never, begunPast, movedMark}
 use Rattle.solver.specs.Invariant.{Places, InLimits, begunIn, countedAt, Marked, FirstMarks, NonePassed, askedAt, MarksRight, MarksFit}
 use Rattle.solver.proofs.PassLaws.{begun-none, begun-high, moved-low}
 

@@ -7,10 +7,9 @@ use native.Mathlib.Nat.{add-zero, mul-le-mul, div-mul-le-self}
 use native.Mathlib.Numerals.{add-one}
 use mathlib.Core.Path.{_≡_, refl, sym, _∙_, ap, subst}
 use mathlib.Core.List.{List}
-use lib.ListN.{length, getD, set, length-set}
+use lib.ListN.{length, set, length-set}
 use lib.Seq.{set-getD, set-comm}
 use Rattle.model.specs.Lists.{filled, total, wordOf}
-use Rattle.model.specs.Tables.{isOther}
 use Rattle.model.proofs.Filling.{Filling, filling-none, filling-more, filling-old, filled-set, filled-same}
 use Rattle.model.proofs.Loads.{other-own, other-is}
 use Rattle.model.proofs.Totals.{total-none, total-more, total-high}

@@ -12,7 +12,7 @@ use lib.Seq.{getD-set-same, getD-set-other}
 use borrow.Author.Tests.{eqb-true, leb-true}
 use Rattle.model.specs.Choice.{both}
 use Rattle.model.specs.Lists.{filled, sumOf, total, wordOf}
-use Rattle.model.specs.Tables.{Load, isOther}
+use Rattle.model.specs.Tables.{isOther}
 use Rattle.model.proofs.Filling.{filled-word}
 use Rattle.model.proofs.Lists.{getD-filled, getD-filled-past, length-filled}
 use Rattle.model.proofs.Tests.{both-true}
@@ -20,8 +20,8 @@ use Rattle.equation.specs.Demand.{demand}
 use Rattle.equation.specs.Laws.{costOf}
 use Rattle.equation.specs.Slices.{loads, loadAt, LoadsFit}
 use Rattle.solver.specs.Solver.{Solvable, SolvedBy}
-use Rattle.solver.specs.Invariant.{Places, InLimits, Marked, FirstMarks, NonePassed}
-use Rattle.solver.specs.Marks.{raise, never, firstMarkAt, firstMarkFor, movedAt, moreAt, PeriodsHigh, Markable, Passable, Passed, Advanced, Begun}
+use Rattle.solver.specs.Invariant.{Places, InLimits, Marked, NonePassed}
+use Rattle.solver.specs.Marks.{raise, firstMarkFor, movedAt, moreAt, PeriodsHigh, Markable, Passable, Passed, Advanced, Begun}
 use Rattle.solver.proofs.PassLaws.{least-low}
 use Rattle.solver.proofs.MarkLaws.{marksRight}
 use Rattle.solver.proofs.SolverLaws.{Turn, turn-first, turn-found, turn-on, gained}

@@ -1,5 +1,5 @@
--- The marks of loads, for the contracts of the functions that the solver calls. No statement and no public entry's
--- contract speaks of them.
+-- The marks of loads, for the contracts of the functions that the solver calls, and for the statements of Invariant.antt. No demand and no public
+-- entry's contract speaks of them.
 -- Assumes nothing.
 use Prim.Native.Nat.{ℕ, zero, suc, _+_, _-_, _*_, _≤_, _<_, min}
 use mathlib.Core.Path.{_≡_}

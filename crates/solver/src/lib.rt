@@ -56,6 +56,7 @@ pub fn solve(
             rounds,
         };
     }
+    // the base as a number of its own: the loop's proof speaks of it, and the loop itself does not
     let alone = base.0;
     let once = alone + others.0;
     if ends_at_once(start, Ticks(once), least) {

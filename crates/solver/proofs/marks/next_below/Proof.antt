@@ -1,8 +1,7 @@
 -- `solver::marks::next_below` meets its contract: no mark that it has passed over is below, and the one at the end is.
 -- Assumes nothing.
-use Prim.Native.Nat.{ℕ, _-_, _≤_, _<_}
+use Prim.Native.Nat.{_-_}
 use native.Mathlib.Omega.{arith}
-use Rattle.model.specs.Lists.{wordOf}
 use Rattle.solver.proofs.PassLaws.{Searching, searching-none, searching-more}
 use Rattle.solver.proofs.marks.next_below.Statement.{statement}
 use Rattle.solver.proofs.marks.next_below.Tie as tie
