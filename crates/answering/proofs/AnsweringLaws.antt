@@ -42,38 +42,39 @@ with-answer false (Refused refusal) place = refl
 with-answer false Schedulable place = refl
 with-answer false (Late first) place = refl
 
--- before task i is answered: the last group that was looked for, and `reached`, one cost of every task before i
-pub record Answering (d : Decoded) (n i end sum reached : ℕ) (verdict : Verdict) : Type 0 where
+-- before task i is looked at: the last group that was looked for, and `reached`, one cost of every task before i
+pub record Walking (d : Decoded) (n i end sum reached : ℕ) : Type 0 where
   pub fits : DecodedFits d n
   pub within : i ≤ n
-  pub result : verdict ≡ resultOf (answerIn d n) i
   pub summed : reached ≡ total (wordOf (d .costs)) i
   pub group : GroupBefore (d .priorities) (d .costs) n i end sum
 
 module _ (d : Decoded) (n : ℕ) where
-  pub answering-none : DecodedFits d n → Answering d n 0 0 0 0 Schedulable
+  pub walking-none : DecodedFits d n → Walking d n 0 0 0 0
   unfolding total
-  answering-none f =
+  walking-none f =
       record {
         fits = f;
         within = omega arith;
-        result = sym (first-none isSchedulable Schedulable refl (lateAt (answerIn d n)));
         summed = refl;
         group = group-first (d .priorities) (d .costs) n;
       }
 
+  pub result-none : Schedulable ≡ resultOf (answerIn d n) 0
+  result-none = sym (first-none isSchedulable Schedulable refl (lateAt (answerIn d n)))
+
   -- one cost more, and it fits a word
-  pub reached-more : (i end sum reached : ℕ) (verdict : Verdict) → Answering d n i end sum reached verdict →
+  pub reached-more : (i end sum reached : ℕ) → Walking d n i end sum reached →
       reached + getD (d .costs) i 0 ≡ total (wordOf (d .costs)) (i + 1)
   unfolding total
-  reached-more i end sum reached verdict a = rw add-one (omega (arith, a .summed))
+  reached-more i end sum reached a = rw add-one (omega (arith, a .summed))
 
-  pub reached-fits : (i end sum reached : ℕ) (verdict : Verdict) → Answering d n i end sum reached verdict → i < n →
+  pub reached-fits : (i end sum reached : ℕ) → Walking d n i end sum reached → i < n →
       reached + getD (d .costs) i 0 ≤ 200000000
-  reached-fits i end sum reached verdict a h =
+  reached-fits i end sum reached a h =
       omega (
         arith,
-        reached-more i end sum reached verdict a,
+        reached-more i end sum reached a,
         costs-high (d .priorities) (d .costs) n (a .fits .ranked) (i + 1) (omega arith),
       )
 
@@ -94,8 +95,8 @@ module _ (d : Decoded) (n : ℕ) where
   -- the group of the task, as it was found
   module _ (i : ℕ) (f : DecodedFits d n) (h : i < n) (beforeEnd beforeSum count all end sum : ℕ)
       (found : GroupFound (d .priorities) (d .costs) n i beforeEnd beforeSum count all end sum) where
-    -- what the solver is lent are the loads
-    loads-are : loads (d .periods) (d .costs) (d .spreads) i count ≡ loadsIn d n i
+    -- the loads of so many places, without the own one, are the task's
+    pub loads-are : loads (d .periods) (d .costs) (d .spreads) i count ≡ loadsIn d n i
     loads-are =
         found-loads (d .priorities) (d .costs) n (f .ranked) i beforeEnd beforeSum count all end sum h found (loadAt (d .periods) (d .costs) (d .spreads))
 
@@ -193,26 +194,29 @@ module _ (d : Decoded) (n : ℕ) where
           unfolding roundsIn
           rounds-are = rw (is, loads-are) at (rw first-is at (solved .rounds))
 
-    pub answering-more : (reached : ℕ) (verdict next : Verdict) (late : Bool) (response : ℕ) → Answering d n i beforeEnd beforeSum reached verdict →
-        response ≡ answerIn d n i → late ≡ eqb response 0 → next ≡ pick late (pick (isSchedulable verdict) (Late (at i)) verdict) verdict →
-        Answering d n (i + 1) end sum (reached + getD (d .costs) i 0) next
-    unfolding firstOf
-    answering-more reached verdict next late response a e lateIs step =
+    pub walking-more : (reached : ℕ) → Walking d n i beforeEnd beforeSum reached → Walking d n (i + 1) end sum (reached + getD (d .costs) i 0)
+    walking-more reached a =
         record {
           fits = f;
           within = omega arith;
-          result =
-              rw add-one
-              (step
-              ∙ with-answer late verdict (at i)
-              ∙ ap (λ (b : Bool). pick (isSchedulable verdict) (pick b (Late (at i)) Schedulable) verdict) (lateIs ∙ ap (λ (x : ℕ). eqb x 0) e)
-              ∙ ap (λ (v : Verdict). pick (isSchedulable v) (lateIf (answerIn d n i) (at i)) v) (a .result));
-          summed = reached-more i beforeEnd beforeSum reached verdict a;
+          summed = reached-more i beforeEnd beforeSum reached a;
           group = group-next (d .priorities) (d .costs) n (f .ranked) i beforeEnd beforeSum count all end sum h found (a .group);
         }
 
-  pub answering-all : (i end sum reached : ℕ) (verdict : Verdict) → Answering d n i end sum reached verdict → n ≤ i →
-      (n ≡ i) × (verdict ≡ resultOf (answerIn d n) n)
-  answering-all i end sum reached verdict a h =
-      let all : n ≡ i = omega (arith, a .within) in
-      (all, subst (λ (k : ℕ). verdict ≡ resultOf (answerIn d n) k) (sym all) (a .result))
+  pub result-more : (i : ℕ) (verdict next : Verdict) (late : Bool) (response : ℕ) → verdict ≡ resultOf (answerIn d n) i →
+      response ≡ answerIn d n i → late ≡ eqb response 0 → next ≡ pick late (pick (isSchedulable verdict) (Late (at i)) verdict) verdict →
+      next ≡ resultOf (answerIn d n) (i + 1)
+  unfolding firstOf
+  result-more i verdict next late response before e lateIs step =
+      rw add-one
+      (step
+      ∙ with-answer late verdict (at i)
+      ∙ ap (λ (b : Bool). pick (isSchedulable verdict) (pick b (Late (at i)) Schedulable) verdict) (lateIs ∙ ap (λ (x : ℕ). eqb x 0) e)
+      ∙ ap (λ (v : Verdict). pick (isSchedulable v) (lateIf (answerIn d n i) (at i)) v) before)
+
+  -- once no task is left, i is their number
+  pub walked-all : (i end sum reached : ℕ) → Walking d n i end sum reached → n ≤ i → n ≡ i
+  walked-all i end sum reached a h = omega (arith, a .within)
+
+  pub result-all : (i : ℕ) (verdict : Verdict) → verdict ≡ resultOf (answerIn d n) i → n ≡ i → verdict ≡ resultOf (answerIn d n) n
+  result-all i verdict is all = subst (λ (k : ℕ). verdict ≡ resultOf (answerIn d n) k) (sym all) is

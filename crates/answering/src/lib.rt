@@ -40,19 +40,19 @@ fn with_answer(verdict: Verdict, late: bool, at: Place) -> Verdict
 }
 
 // What is known of the tasks that share a task's priority, its group.
-struct Group {
+pub struct Group {
     // the task's loads are those of so many places, without its own
-    count: usize,
+    pub count: usize,
     // one cost of every task up to the end of its group, its own with them
-    all: Ticks,
+    pub all: Ticks,
     // where the last group ends that was looked for, and one cost of every task before that end
-    end: usize,
-    costs: Ticks,
+    pub end: usize,
+    pub costs: Ticks,
 }
 
 // The group of the task at place i. `reached` is one cost of every task up to it, `before` what is known from the task before. No place is
 // looked at twice for an end.
-fn group_of(
+pub fn group_of(
     priorities: &[u8],
     costs: &[u32],
     n: usize,

@@ -15,7 +15,7 @@ use Rattle.model.proofs.Search as search-laws
 use Rattle.model.proofs.Tests.{ltb?, leb?, clash}
 use Rattle.equation.specs.Demand.{demand}
 use Rattle.equation.specs.Answer.{solves, smallest, answer, answerFor}
-use Rattle.equation.specs.Laws.{IsSmallest, SmallestMeans, AnswerMeans, SmallestExists}
+use Rattle.equation.specs.Laws.{IsSmallest, SmallestMeans, AnswerMeans, SmallestExists, EnoughInTime}
 use Rattle.equation.proofs.DemandLaws as demands
 
 smallest-found : (base : ℕ) (loads : List Load) (limit : ℕ) →
@@ -118,3 +118,9 @@ smallest-exists base loads w b p h =
     let d = down base loads w w b p (omega arith) h in
     let s = some-smallest base loads (d .0) (d .1) (d .2) in
     (s .0, s .1, omega (arith, s .2, d .3))
+
+pub enough-in-time : EnoughInTime
+enough-in-time base loads late deadline w b p h inTime =
+    let s = smallest-exists base loads w b p h in
+    let e = answer-answered base loads late deadline (s .0) (s .1) (omega (arith, s .2)) in
+    (omega (arith, e, s .1 .positive), omega (arith, e, s .2))

@@ -23,6 +23,9 @@ answerMeans = answers.answer-means
 pub smallestExists : laws.SmallestExists
 smallestExists = answers.smallest-exists
 
+pub enoughInTime : laws.EnoughInTime
+enoughInTime = answers.enough-in-time
+
 pub sequenceReaches : laws.SequenceReaches
 sequenceReaches = sequence.sequence-reaches
 

@@ -51,6 +51,12 @@ SmallestExists =
     (base : ℕ) (loads : List Load) (w : ℕ) → 1 ≤ base → 1 ≤ w → demand base loads w ≤ w →
     (v : ℕ) × IsSmallest base loads v × (v ≤ w)
 
+-- So, if that w with the delay is within the deadline, the task has an answer, and it is no later.
+abbrev pub EnoughInTime : Type 0
+EnoughInTime =
+    (base : ℕ) (loads : List Load) (late deadline w : ℕ) → 1 ≤ base → 1 ≤ w → demand base loads w ≤ w → w + late ≤ deadline →
+    (1 ≤ answer base loads late deadline) × (answer base loads late deadline ≤ w + late)
+
 -- A start that is above no solution: where the sequence may begin.
 abbrev pub NotAbove : ℕ → List Load → ℕ → Type 0
 NotAbove base loads start = (w : ℕ) → 1 ≤ w → demand base loads w ≡ w → start ≤ w

@@ -181,7 +181,7 @@ module _ (bytes : List ℕ) (records : RecordColumn → List ℕ) (rows : RowCol
           (λ (c : ℕ). largestOf (section (tasksOf bytes) (tabulate (rowAt bytes) c) (taskOf (tasksOf bytes) i .priority)) (tabulate (rowAt bytes) c))
           rowsCounted
 
-      base-is : getD (records costColumn) i 0 + largestTo (sectionAt owners tops (rows longestColumn) (getD ranks i 0)) m ≡ baseOf (tableOf bytes) i
+      pub base-is : getD (records costColumn) i 0 + largestTo (sectionAt owners tops (rows longestColumn) (getD ranks i 0)) m ≡ baseOf (tableOf bytes) i
       base-is =
           let cost : getD (records costColumn) i 0 ≡ taskOf (tasksOf bytes) i .cost =
           held .ofRecords costColumn .read i (inside h) ∙ sym (ap (λ (t : Task). t .cost) own) in
@@ -190,7 +190,7 @@ module _ (bytes : List ℕ) (records : RecordColumn → List ℕ) (rows : RowCol
       priority-is : (k : ℕ) → k < n → getD ranks k 0 ≡ priorityOf (tasksOf bytes) k
       priority-is k l = ranksHeld .read k (inside l) ∙ sym (priority-at bytes k (inside l))
 
-      loads-agree : loadsIn (decodedFrom ranks records rows owners tops m) n i ≡ loadsOf (tasksOf bytes) i
+      pub loads-agree : loadsIn (decodedFrom ranks records rows owners tops m) n i ≡ loadsOf (tasksOf bytes) i
       loads-agree =
           gather-same (interferes (wordOf ranks) i) (interferes (priorityOf (tasksOf bytes)) i)
           (loadAt (records periodColumn) (records costColumn) (records spreadColumn)) (loadFrom (tasksOf bytes)) n
@@ -203,10 +203,10 @@ module _ (bytes : List ℕ) (records : RecordColumn → List ℕ) (rows : RowCol
           ∙ ap loadOf (sym (task-is bytes k (inside l))))
           ∙ ap (gather (interferes (priorityOf (tasksOf bytes)) i) (loadFrom (tasksOf bytes))) (tasksCounted ∙ sym (tasks-count bytes))
 
-      latest-is : getD (records latestColumn) i 0 ≡ taskOf (tasksOf bytes) i .latest
+      pub latest-is : getD (records latestColumn) i 0 ≡ taskOf (tasksOf bytes) i .latest
       latest-is = held .ofRecords latestColumn .read i (inside h) ∙ sym (ap (λ (t : Task). t .latest) own)
 
-      deadline-is : getD (records deadlineColumn) i 0 ≡ taskOf (tasksOf bytes) i .deadline
+      pub deadline-is : getD (records deadlineColumn) i 0 ≡ taskOf (tasksOf bytes) i .deadline
       deadline-is = held .ofRecords deadlineColumn .read i (inside h) ∙ sym (ap (λ (t : Task). t .deadline) own)
 
       answer-agrees : answerIn (decodedFrom ranks records rows owners tops m) n i ≡ answerOf (tableOf bytes) i

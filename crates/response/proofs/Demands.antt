@@ -220,7 +220,7 @@ result-transfer f g n (verdict.Late p) same h =
 
 module _ (bytes : List ℕ) (calm : NoDelay (tasksOf bytes)) (bare : rowCount bytes ≡ 0) where
   -- with no rows nothing blocks
-  no-blocking : (i : ℕ) → blockingOf (tableOf bytes) i ≡ 0
+  pub no-blocking : (i : ℕ) → blockingOf (tableOf bytes) i ≡ 0
   unfolding blockingOf tabulate largestOf
   no-blocking i =
       ap

@@ -8,12 +8,13 @@ use mathlib.Core.Path.{_≡_, refl, _∙_}
 use mathlib.Core.List.{List}
 use lib.ListN.{length}
 use Rattle.model.specs.Tables.{Task, taskOf, loadsOf, Alone}
+use Rattle.equation.specs.Demand.{demand}
 use Rattle.equation.specs.Laws.{IsSmallest}
 use Rattle.equation.proofs.Laws.{answerMeans, smallestExists}
 use Rattle.runs.specs.Jobs.{Job, jobOf, TasksFit, NoDelay}
 use Rattle.runs.specs.Schedule.{Schedule, Finished, LegalSchedule, Run}
 use Rattle.runs.specs.Scheduler.{scheduleOf}
-use Rattle.runs.specs.Statement.{responseOf, OwnJob, releaseOf, FinishedAt, NoneExceeds, Answers, EquationRight, OnlyAnswer}
+use Rattle.runs.specs.Statement.{responseOf, OwnJob, releaseOf, FinishedAt, NoneExceeds, Answers, EnoughInRuns, EquationRight, OnlyAnswer}
 use Rattle.runs.specs.Synchronous.{synchronous, FirstJob, SynchronousIsWorst}
 use Rattle.runs.proofs.Served.{served-grows}
 use Rattle.runs.proofs.Upper.{finished-in-time}
@@ -33,13 +34,17 @@ module _ (tasks : List Task) (fit : TasksFit tasks) (calm : NoDelay tasks) (i : 
       let same : responseOf tasks i ≡ found .0 = found .3 ∙ add-zero (found .0) in
       (rw same (found .1), omega (arith, found .2))
 
-  -- so no job of any run exceeds it, whoever shares the task's priority
-  none-exceeds : NoneExceeds tasks i (responseOf tasks i)
-  none-exceeds low run job h =
-      let best = answered low in
+  -- no job of any run exceeds a w that is enough, whoever shares the task's priority
+  enough : (w : ℕ) → w ≤ taskOf tasks i .period → demand (taskOf tasks i .cost) (loadsOf tasks i) w ≤ w → NoneExceeds tasks i w
+  enough w short holds low run job h =
       finished-in-time tasks (fit .periodLow) (run .ticks) (run .jobs) (run .legalJobs) calm i isTask (run .schedule) (run .legalSchedule)
-      (job .number) (responseOf tasks i) (job .isJob) (job .isOwn) low (le-trans (best .1) (fit .deadlineHigh i isTask))
-      (le-of-eq (best .0 .solution)) h
+      (job .number) w (job .isJob) (job .isOwn) low short holds h
+
+  -- so none exceeds the answer
+  none-exceeds : NoneExceeds tasks i (responseOf tasks i)
+  none-exceeds low =
+      let best = answered low in
+      enough (responseOf tasks i) (le-trans (best .1) (fit .deadlineHigh i isTask)) (le-of-eq (best .0 .solution)) low
 
   -- the run of so many ticks in which all is released together, with any legal schedule
   together : (ticks : ℕ) (s : Schedule) → LegalSchedule tasks ticks (synchronous tasks ticks) s → Run tasks
@@ -118,6 +123,9 @@ module _ (tasks : List Task) (fit : TasksFit tasks) (calm : NoDelay tasks) (i : 
             λ done. omega (arith, one .2 _ (omega (arith, one .1)) done),
           );
         }
+
+pub enoughInRuns : EnoughInRuns
+enoughInRuns = enough
 
 pub equationRight : EquationRight
 equationRight = record { firstHalf = none-exceeds; bothHalves = answers }

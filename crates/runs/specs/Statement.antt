@@ -6,6 +6,7 @@ use mathlib.Core.Path.{_≡_}
 use mathlib.Core.List.{List}
 use lib.ListN.{length}
 use Rattle.model.specs.Tables.{Task, taskOf, loadsOf, Alone}
+use Rattle.equation.specs.Demand.{demand}
 use Rattle.equation.specs.Answer.{answer}
 use Rattle.runs.specs.Jobs.{Job, jobOf, TasksFit, NoDelay, LegalJobs}
 use Rattle.runs.specs.Schedule.{Schedule, Finished, LegalSchedule, Run}
@@ -54,6 +55,13 @@ pub record EquationRight : Type 0 where
   -- both hold for every task whose priority no other task has, whatever ties there are among the others
   pub bothHalves : (tasks : List Task) → TasksFit tasks → NoDelay tasks → (i : ℕ) → i < length tasks → Alone tasks i →
       Answers tasks i (responseOf tasks i)
+
+-- The first half asks for demand(w) ≤ w alone: no job exceeds any w up to the period that is so, the answer or a later one, whoever shares
+-- the task's priority.
+abbrev pub EnoughInRuns : Type 0
+EnoughInRuns =
+    (tasks : List Task) → TasksFit tasks → NoDelay tasks → (i : ℕ) → i < length tasks → (w : ℕ) → w ≤ taskOf tasks i .period →
+    demand (taskOf tasks i .cost) (loadsOf tasks i) w ≤ w → NoneExceeds tasks i w
 
 -- It says so of no other number up to the deadline: a generous one fails "some run", a small one fails "every job".
 abbrev pub OnlyAnswer : Type 0

@@ -1,0 +1,204 @@
+// Checks claimed response times (SPECIFICATION 13.7; document 02, L7): each claim is looked at once, with one demand and no iteration.
+ghost use mathlib.Core.Path.{_≡_};
+ghost use Prim.Native.Nat.{_≤_, _<_};
+ghost use lib.ListN.{length};
+ghost use Rattle.tables.specs.Layout.{taskCount};
+ghost use Rattle.reading.specs.Columns.{recordColumns, rowColumns, Lent, TableHeld};
+ghost use Rattle.equation.specs.Slices.{loads, LoadsFit};
+ghost use Rattle.answering.specs.Slices.{decoded, DecodedFits};
+ghost use Rattle.claims.specs.Claims.{claimPasses, comparedOf, Checked};
+ghost use Rattle.claims.specs.Columns.{passesIn};
+ghost use Rattle.claims.specs.Numbers.{codeOf, claimedPlace, packedClaimed, packed};
+use answering::Group;
+use answering::group_of;
+use blocking::blocking;
+use equation::demand;
+use model::Place;
+use model::Priority;
+use model::Ticks;
+use tables::Check;
+use tables::ONE_PERIOD;
+use tables::ROW_COUNT_AT;
+use tables::Refusal;
+use tables::TASK_COUNT_AT;
+use tables::fields::count;
+
+// What is said of a list of claims.
+pub enum Claimed {
+    // the table breaks a rule: refusals 1 to 7
+    Refused(Refusal),
+    // the list has fewer or more words than the table has tasks: refusal 10
+    WrongCount,
+    Pass,
+    // the first place whose claim fails
+    Fails(Place),
+}
+
+// Any bytes and any list get an answer. Nothing is written.
+pub fn check_claims(table: &[u8], claims: &[u32]) -> Claimed
+    ensures { λ r. ⌜ Checked (now (table .entry)) (now (claims .entry)) r ⌝ }
+{
+    // columns for 32 tasks and 64 rows, the most that any version has: 32 + 2 * 64 bytes and 5 * 32 + 64 words
+    let mut bytes = [0u8; 160];
+    let mut words = [0u32; 224];
+    let found = reading::read(table, ONE_PERIOD, 32, &mut bytes, &mut words);
+    if let Check::Refused(refusal) = found {
+        return Claimed::Refused(refusal);
+    }
+    let n = count(table[TASK_COUNT_AT]);
+    if claims.len() != n {
+        return Claimed::WrongCount;
+    }
+    check_table(table, &bytes, &words, claims)
+}
+
+// Checks a claim for each task of a table that the columns hold. The ceilings are found once.
+fn check_table(table: &[u8], bytes: &[u8], words: &[u32], claims: &[u32]) -> Claimed
+    requires { ⌜ Lent (now table) 32 (now bytes) (now words) ⌝ }
+    requires { ⌜ length (now claims) ≡ taskCount (now table) ⌝ }
+    requires { ⌜ TableHeld 1 (now table) (recordColumns 32 (now bytes) (now words)) (rowColumns 32 (now bytes) (now words)) ⌝ }
+    ensures { λ r. ⌜ Checked (now (table .entry)) (now (claims .entry)) r ⌝ }
+{
+    let n = count(table[TASK_COUNT_AT]);
+    let m = count(table[ROW_COUNT_AT]);
+    // the priorities are the first bytes
+    let places = &bytes[32..96];
+    let semaphores = &bytes[96..160];
+    let mut owners = [0u8; 64];
+    let mut tops = [0u8; 64];
+    blocking::spans(bytes, places, semaphores, m, &mut owners, &mut tops);
+    // of the words: periods, costs, deadlines, spreads, latest delays; at the end the longest sections
+    check_all(
+        bytes,
+        &words[0..32],
+        &words[32..64],
+        &words[64..96],
+        &words[96..128],
+        &words[128..160],
+        n,
+        &owners,
+        &tops,
+        &words[160..224],
+        m,
+        claims,
+    )
+}
+
+// The first of n claims that fails, over the columns of a decoded table.
+fn check_all(
+    priorities: &[u8],
+    periods: &[u32],
+    costs: &[u32],
+    deadlines: &[u32],
+    spreads: &[u32],
+    latest: &[u32],
+    n: usize,
+    owners: &[u8],
+    tops: &[u8],
+    longest: &[u32],
+    m: usize,
+    claims: &[u32],
+) -> Claimed
+    requires { ⌜ DecodedFits (decoded (now priorities) (now periods) (now costs) (now deadlines) (now spreads) (now latest) (now owners) (now tops) (now longest) m) n ⌝ }
+    requires { ⌜ n ≤ length (now claims) ⌝ }
+    ensures { λ r. ⌜ r ≡ comparedOf (passesIn (decoded (now (priorities .entry)) (now (periods .entry)) (now (costs .entry)) (now (deadlines .entry)) (now (spreads .entry)) (now (latest .entry)) (now (owners .entry)) (now (tops .entry)) (now (longest .entry)) m) n (now (claims .entry))) n ⌝ }
+{
+    let mut group = Group {
+        count: 0,
+        all: Ticks(0),
+        end: 0,
+        costs: Ticks(0),
+    };
+    let mut reached = Ticks(0);
+    for i in 0..n {
+        let cost = Ticks(costs[i]);
+        reached = Ticks(reached.0 + cost.0);
+        group = group_of(priorities, costs, n, group, reached, i);
+        let held = blocking(owners, tops, longest, m, Priority(priorities[i]));
+        let base = Ticks(cost.0 + held.0);
+        let own_latest = Ticks(latest[i]);
+        let deadline = Ticks(deadlines[i]);
+        let claim = Ticks(claims[i]);
+        if !passes(
+            periods,
+            costs,
+            spreads,
+            i,
+            group.count,
+            base,
+            own_latest,
+            deadline,
+            claim,
+        ) {
+            return Claimed::Fails(Place(i));
+        }
+    }
+    Claimed::Pass
+}
+
+// Does the claim of the task at place `own` pass? No tick is taken off a claim that is too small, and nothing is asked for one that is past
+// the deadline.
+fn passes(
+    periods: &[u32],
+    costs: &[u32],
+    spreads: &[u32],
+    own: usize,
+    count: usize,
+    base: Ticks,
+    latest: Ticks,
+    deadline: Ticks,
+    claim: Ticks,
+) -> bool
+    requires { ⌜ LoadsFit (now periods) (now costs) (now spreads) count ⌝ }
+    requires { ⌜ deadline .0 ≤ 1000000 ⌝ }
+    ensures { λ r. ⌜ r ≡ claimPasses (base .0) (loads (now (periods .entry)) (now (costs .entry)) (now (spreads .entry)) own count) (latest .0) (deadline .0) (claim .0) ⌝ }
+{
+    if claim.0 <= latest.0 {
+        return false;
+    }
+    if deadline.0 < claim.0 {
+        return false;
+    }
+    let w = Ticks(claim.0 - latest.0);
+    demand(periods, costs, spreads, own, count, base, w) <= w.0 as u64
+}
+
+// The refusal's number; 0 for pass, 255 for fails.
+pub fn code(claimed: Claimed) -> u32
+    ensures { λ r. ⌜ r ≡ codeOf claimed ⌝ }
+{
+    match claimed {
+        Claimed::Refused(refusal) => tables::number(refusal),
+        Claimed::WrongCount => 10,
+        Claimed::Pass => 0,
+        Claimed::Fails(_) => 255,
+    }
+}
+
+// The refusal's place (a byte of the table, or 0), or that of the first task whose claim fails.
+pub fn place(claimed: Claimed) -> usize
+    ensures { λ r. ⌜ r ≡ claimedPlace claimed ⌝ }
+{
+    match claimed {
+        Claimed::Refused(refusal) => tables::place(refusal),
+        Claimed::WrongCount => 0,
+        Claimed::Pass => 0,
+        Claimed::Fails(at) => at.0,
+    }
+}
+
+// The answer in one number, for C: the code in the upper 32 bits, the place in the lower 32.
+fn pack(claimed: Claimed) -> u64
+    requires { ⌜ claimedPlace claimed < 65536 ⌝ }
+    ensures { λ r. ⌜ r ≡ packedClaimed claimed ⌝ }
+{
+    (code(claimed) as u64) * 4294967296 + (place(claimed) as u64)
+}
+
+// The same for C. include/ulmerascio.h says how to call it and how to take the number apart.
+#[no_mangle]
+pub extern "C" fn ulmerascio_check_claims(table: &[u8], claims: &[u32]) -> u64
+    ensures { λ r. ⌜ r ≡ packed (now (table .entry)) (now (claims .entry)) ⌝ }
+{
+    pack(check_claims(table, claims))
+}
