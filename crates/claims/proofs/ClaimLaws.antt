@@ -37,10 +37,10 @@ module _ (base : ℕ) (loads : List Load) (latest deadline r : ℕ) where
   too-late h = sym (rw (lt-leb r deadline h) (both-fail (leb 1 (r - latest)) false refl))
 
   -- any other is as good as its demand
-  pub as-asked : latest < r → r ≤ deadline → (asked : ℕ) → asked ≡ demand base loads (r - latest) →
-      leb asked (r - latest) ≡ claimPasses base loads latest deadline r
+  pub as-asked : latest < r → r ≤ deadline → (w : ℕ) → w ≡ r - latest → (asked : ℕ) → asked ≡ demand base loads w →
+      leb asked w ≡ claimPasses base loads latest deadline r
   unfolding claimPasses
-  as-asked low high asked is = rw (is, le-leb 1 (r - latest) (omega arith), le-leb r deadline high) refl
+  as-asked low high w left asked is = rw (is, left, le-leb 1 (r - latest) (omega arith), le-leb r deadline high) refl
 
   -- what a claim that passes says
   pub passes-says : claimPasses base loads latest deadline r ≡ true →

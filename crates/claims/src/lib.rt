@@ -1,6 +1,6 @@
 // Checks claimed response times (SPECIFICATION 13.7; document 02, L7): each claim is looked at once, with one demand and no iteration.
 ghost use mathlib.Core.Path.{_≡_};
-ghost use Prim.Native.Nat.{_≤_, _<_};
+ghost use Prim.Native.Nat.{_-_, _≤_, _<_};
 ghost use lib.ListN.{length};
 ghost use Rattle.tables.specs.Layout.{taskCount};
 ghost use Rattle.reading.specs.Columns.{recordColumns, rowColumns, Lent, TableHeld};
@@ -136,6 +136,14 @@ fn check_all(
     Claimed::Pass
 }
 
+// "w = r minus the latest delay", for a claim r that is not below it.
+fn window(claim: Ticks, latest: Ticks) -> Ticks
+    requires { ⌜ latest .0 ≤ claim .0 ⌝ }
+    ensures { λ r. ⌜ r .0 ≡ claim .0 - latest .0 ⌝ }
+{
+    Ticks(claim.0 - latest.0)
+}
+
 // Does the claim of the task at place `own` pass? No tick is taken off a claim that is too small, and nothing is asked for one that is past
 // the deadline.
 fn passes(
@@ -159,7 +167,7 @@ fn passes(
     if deadline.0 < claim.0 {
         return false;
     }
-    let w = Ticks(claim.0 - latest.0);
+    let w = window(claim, latest);
     demand(periods, costs, spreads, own, count, base, w) <= w.0 as u64
 }
 
