@@ -1,3 +1,4 @@
 pub mod ClaimLaws
 pub mod ColumnLaws
 pub mod Claims
+pub mod ExampleLaws
