@@ -101,6 +101,13 @@ module _ (bytes : List ℕ) where
   clean-right : readCheck 1 bytes ≡ check.Clean → TableRight bytes
   clean-right e = table-right 1 bytes (taskCount bytes) (taskCount bytes) (with-room ∙ e) .0
 
+  few-right : TableRight bytes → taskCount bytes ≤ 32
+  few-right right = omega (arith, right .head .counts taskCountField .high, layout-sound bytes (right .head .version) .few)
+
+  -- what is read and not refused has at most 32 tasks
+  pub few-tasks : readCheck 1 bytes ≡ check.Clean → taskCount bytes ≤ 32
+  few-tasks e = few-right (clean-right e)
+
 module _ (bytes claims : List ℕ) where
   abbrev tested : ℕ → Bool
   tested = passesAt (tableOf bytes) claims
@@ -242,6 +249,4 @@ claimed-place bytes claims claimed checked = within claimed (claimsChecked .righ
     within (Refused r) d = refusal-place 1 bytes (taskCount bytes) (taskCount bytes) r d
     within WrongCount d = omega arith
     within Pass d = omega arith
-    within (Fails place) d =
-        let head = d .0 .right .head in
-        omega (arith, d .1, head .counts taskCountField .high, layout-sound bytes (head .version) .few)
+    within (Fails place) d = omega (arith, d .1, few-right bytes (d .0 .right))

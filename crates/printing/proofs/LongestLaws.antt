@@ -52,7 +52,7 @@ number-small (SectionRow place) = omega arith
 number-small NoRoom = omega arith
 number-small NotPlayable = omega arith
 
-refused-long : (refusal : Refusal) → placeOf refusal < 65536 → length (refusedLine refusal) ≤ 19
+pub refused-long : (refusal : Refusal) → placeOf refusal < 65536 → length (refusedLine refusal) ≤ 19
 refused-long refusal h =
     omega (
       arith,

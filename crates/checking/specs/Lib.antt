@@ -1,0 +1,3 @@
+pub mod Text
+pub mod Longest
+pub mod Samples

@@ -1,0 +1,81 @@
+// The text of a list of claims and the bytes of a table in, one line of text out (SPECIFICATION 10.2; document 02, L7).
+ghost use Prim.Native.Nat.{_≤_, min};
+ghost use mathlib.Core.Path.{_≡_};
+ghost use Rattle.printing.specs.Appended.{Appended};
+ghost use Rattle.scanning.specs.Reading.{readingOf};
+ghost use Rattle.checking.specs.Text.{claimedLine, unreadableLine, textFor, checkText};
+use claims::Claimed;
+use claims::check_claims;
+use printing::append;
+use printing::line_with_number;
+use printing::verdict_line;
+use response::Verdict;
+use scanning::Scanned;
+use scanning::TextPlace;
+use scanning::numbers;
+
+// Bytes enough for any line, and for the longest no more than enough: `longest` of specs/Longest.antt.
+pub const LONGEST: usize = 20;
+
+// The longest text of a list that is read: `mostText` of specs/Text.antt.
+const MOST_TEXT: usize = 65535;
+
+// One word more than any table has tasks, so that a longer list is seen to be too long.
+const WORDS: usize = 33;
+
+// Reads the claims, checks them against the table, and puts the line that says the answer at the buffer's beginning; answers where it ends.
+pub fn check_text(list: &[u8], table: &[u8], out: &mut [u8]) -> usize
+    ensures { λ r. ⌜ Appended (now (out .entry)) 0 (checkText (now (list .entry)) (now (table .entry))) r (now (out .exit)) ⌝ }
+{
+    if list.len() <= MOST_TEXT {
+        return check_list(list, table, out);
+    }
+    // the list goes on behind what is read of it
+    let mut none = [0u32; 0];
+    let scanned = numbers(&list[..MOST_TEXT], &mut none);
+    match scanned {
+        Scanned::Numbers(_) => unreadable(out, TextPlace(MOST_TEXT)),
+        Scanned::Unreadable(place) => unreadable(out, place),
+    }
+}
+
+// The same for a list of any length.
+fn check_list(list: &[u8], table: &[u8], out: &mut [u8]) -> usize
+    ensures { λ r. ⌜ Appended (now (out .entry)) 0 (textFor (readingOf (now (list .entry))) (now (table .entry))) r (now (out .exit)) ⌝ }
+{
+    let mut words = [0u32; WORDS];
+    let scanned = numbers(list, &mut words);
+    match scanned {
+        Scanned::Numbers(count) => {
+            let claimed = check_claims(table, &words[..fewer(count, WORDS)]);
+            claimed_line(out, 0, claimed)
+        }
+        Scanned::Unreadable(place) => unreadable(out, place),
+    }
+}
+
+// The lesser of two counts.
+fn fewer(a: usize, b: usize) -> usize
+    ensures { λ r. ⌜ r ≡ min a b ⌝ }
+{
+    if a < b { a } else { b }
+}
+
+// The line that says what was found of the claims.
+pub fn claimed_line(out: &mut [u8], at: usize, claimed: Claimed) -> usize
+    ensures { λ r. ⌜ Appended (now (out .entry)) at (claimedLine claimed) r (now (out .exit)) ⌝ }
+{
+    match claimed {
+        Claimed::Refused(refusal) => verdict_line(out, at, Verdict::Refused(refusal)),
+        Claimed::WrongCount => append(out, at, b"refused 10 at 0\n"),
+        Claimed::Pass => append(out, at, b"pass\n"),
+        Claimed::Fails(place) => line_with_number(out, at, b"fails ", place.0 as u64),
+    }
+}
+
+// The line for a list that can't be read, with the first byte of what can't.
+fn unreadable(out: &mut [u8], place: TextPlace) -> usize
+    ensures { λ r. ⌜ Appended (now (out .entry)) 0 (unreadableLine (place .0)) r (now (out .exit)) ⌝ }
+{
+    line_with_number(out, 0, b"unreadable at ", place.0 as u64)
+}

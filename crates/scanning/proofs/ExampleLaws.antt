@@ -1,0 +1,9 @@
+-- The examples, computed.
+-- Assumes nothing.
+use mathlib.Core.Path.{refl}
+use Rattle.scanning.specs.Reading.{isDigit, isSeparator, outside}
+use Rattle.scanning.specs.Examples.{examples, ExamplesRight}
+
+pub examplesRight : ExamplesRight
+unfolding isDigit isSeparator outside examples
+examplesRight = refl

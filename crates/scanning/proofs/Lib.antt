@@ -1,0 +1,7 @@
+pub mod ByteLaws
+pub mod WordLaws
+pub mod StepLaws
+pub mod ReadLaws
+pub mod BackLaws
+pub mod ExampleLaws
+pub mod FaultLaws

@@ -1,0 +1,6 @@
+pub mod Reading
+pub mod Read
+pub mod Steps
+pub mod Back
+pub mod Examples
+pub mod Faults
