@@ -55,7 +55,7 @@ fn check_list(list: &[u8], table: &[u8], out: &mut [u8]) -> usize
 }
 
 // The lesser of two counts.
-fn fewer(a: usize, b: usize) -> usize
+pub fn fewer(a: usize, b: usize) -> usize
     ensures { λ r. ⌜ r ≡ min a b ⌝ }
 {
     if a < b { a } else { b }
