@@ -110,6 +110,9 @@ module _ (d : Decoded) (n : ℕ) where
           costs-others (d .periods) (d .costs) (d .spreads) i (groupEnd (d .priorities) n i) (own-inside (d .priorities) (d .costs) n (f .ranked) i h),
         )
 
+    pub others-once : all - getD (d .costs) i 0 ≡ sumOf costOf (loads (d .periods) (d .costs) (d .spreads) i count)
+    others-once = others-are ∙ ap (sumOf costOf) (sym loads-are)
+
     pub own-cost : getD (d .costs) i 0 ≤ all
     own-cost = cost-inside (d .priorities) (d .costs) n (f .ranked) i beforeEnd beforeSum count all end sum h found
 
@@ -171,7 +174,7 @@ module _ (d : Decoded) (n : ℕ) where
         begun tall least e =
             record {
               periodHigh = λ k l. tall k (omega (arith, count-high));
-              othersAre = others-are ∙ ap (sumOf costOf) (sym loads-are);
+              othersAre = others-once;
               onceHigh = first-fits;
               startLow = omega (arith, firstIs, first-low start);
               leastHigh =

@@ -2,8 +2,10 @@
 ghost use mathlib.Core.Path.{_≡_};
 ghost use Prim.Native.Nat.{_-_, _≤_, _<_};
 ghost use lib.ListN.{length};
+ghost use Rattle.model.specs.Lists.{sumOf};
 ghost use Rattle.tables.specs.Layout.{taskCount};
 ghost use Rattle.reading.specs.Columns.{recordColumns, rowColumns, Lent, TableHeld};
+ghost use Rattle.equation.specs.Laws.{costOf};
 ghost use Rattle.equation.specs.Slices.{loads, LoadsFit};
 ghost use Rattle.answering.specs.Slices.{decoded, DecodedFits};
 ghost use Rattle.claims.specs.Claims.{claimPasses, comparedOf, Checked};
@@ -114,6 +116,7 @@ fn check_all(
         let cost = Ticks(costs[i]);
         reached = Ticks(reached.0 + cost.0);
         group = group_of(priorities, costs, n, group, reached, i);
+        let others = Ticks(group.all.0 - cost.0);
         let held = blocking(owners, tops, longest, m, Priority(priorities[i]));
         let base = Ticks(cost.0 + held.0);
         let own_latest = Ticks(latest[i]);
@@ -126,6 +129,7 @@ fn check_all(
             i,
             group.count,
             base,
+            others,
             own_latest,
             deadline,
             claim,
@@ -144,7 +148,8 @@ fn window(claim: Ticks, latest: Ticks) -> Ticks
     Ticks(claim.0 - latest.0)
 }
 
-// Does the claim of the task at place `own` pass? No tick is taken off a claim that is too small, and nothing is asked for one that is past
+// Does the claim of the task at place `own` pass? Its loads are those of the first `count` places without its own, and `others` is one cost of each.
+// No tick is taken off a claim that is too small, and nothing is asked for one that is past
 // the deadline.
 fn passes(
     periods: &[u32],
@@ -153,11 +158,12 @@ fn passes(
     own: usize,
     count: usize,
     base: Ticks,
+    others: Ticks,
     latest: Ticks,
     deadline: Ticks,
     claim: Ticks,
 ) -> bool
-    requires { ⌜ LoadsFit (now periods) (now costs) (now spreads) count ⌝ }
+    requires { ⌜ LoadsFit (now periods) (now costs) (now spreads) count × (others .0 ≡ sumOf costOf (loads (now periods) (now costs) (now spreads) own count)) ⌝ }
     requires { ⌜ deadline .0 ≤ 1000000 ⌝ }
     ensures { λ r. ⌜ r ≡ claimPasses (base .0) (loads (now (periods .entry)) (now (costs .entry)) (now (spreads .entry)) own count) (latest .0) (deadline .0) (claim .0) ⌝ }
 {
@@ -168,7 +174,7 @@ fn passes(
         return false;
     }
     let w = window(claim, latest);
-    demand(periods, costs, spreads, own, count, base, w) <= w.0 as u64
+    demand(periods, costs, spreads, own, count, base, others, w) <= w.0 as u64
 }
 
 // The refusal's number; 0 for pass, 255 for fails.

@@ -1,19 +1,21 @@
 -- The sum over lent slices, one load after the other, and that it fits 64 bits within the limits.
 -- Assumes nothing.
-use Prim.Native.Nat.{ℕ, _+_, _-_, _*_, _^_, _≤_, _<_}
+use Prim.Native.Nat.{ℕ, zero, suc, _+_, _-_, _*_, _≤_, _<_}
 use native.Mathlib.Omega.{arith}
-use native.Mathlib.Nat.{mul-le-mul}
+use native.Mathlib.Numerals.{unary-clauses}
+use native.Mathlib.Nat.{mul-le-mul, mul-le-mul-left, mul-one, le-refl}
 use mathlib.Core.Path.{_≡_, refl, sym, _∙_, ap}
 use mathlib.Core.List.{List}
+use Rattle.model.specs.Lists.{total, sumOf}
 use Rattle.model.specs.Tables.{Load, isOther}
 use Rattle.model.proofs.Gather.{gather-all, gather-sum, sum-tabulate}
 use Rattle.model.proofs.Loads.{other-is, total-other}
-use Rattle.model.proofs.Lists.{tabulate-more, tabulate-none}
+use Rattle.model.proofs.Totals.{total-none, total-more, total-same, total-add, total-high, total-longer}
 use Rattle.equation.specs.Rounding.{ceilDiv}
 use Rattle.equation.specs.Demand.{demand, share}
-use Rattle.equation.specs.Slices.{load, loadsTo, loads, loadAt, LoadFits, LoadsFit}
-use Rattle.equation.proofs.RoundingLaws.{at-most}
-use Rattle.equation.proofs.DemandLaws.{demand-more, demand-none}
+use Rattle.equation.specs.Slices.{load, loads, loadAt, more, moreAt, LoadFits, LoadsFit}
+use Rattle.equation.specs.Laws.{costOf}
+use Rattle.equation.proofs.RoundingLaws.{at-most, positive, least}
 
 share-high : (w : ℕ) (l : Load) → LoadFits l → w ≤ 1000000000 → share w l ≤ 1001000000000000
 share-high w l f h =
@@ -21,56 +23,84 @@ share-high w l f h =
     omega (arith, at-most (w + l .spread) (l .period) (f .periodLow), f .spreadHigh) in
     mul-le-mul {n₁ = l .cost} {m₁ = ceilDiv (w + l .spread) (l .period)} {n₂ = 1000000} {m₂ = 1001000000} (f .costHigh) q
 
--- the cost as often as periods begin is the share
-pub share-is : (period cost spread w begun : ℕ) → begun ≡ ceilDiv (w + spread) period → cost * begun ≡ share w (load period cost spread)
-share-is period cost spread w begun e = rw e refl
+-- beside its cost a load asks for as many costs as periods begin behind the first
+module _ (period cost spread w : ℕ) (f : LoadFits (load period cost spread)) (low : 1 ≤ w) where
+  -- where one period covers the ticks, for nothing
+  pub more-none : w + spread ≤ period → 0 ≡ more w (load period cost spread)
+  more-none h =
+      let one : ceilDiv (w + spread) period ≡ 1 =
+      omega (arith, positive (w + spread) period (f .periodLow) (omega arith), least (w + spread) period 1 (f .periodLow) (omega arith)) in
+      rw (one, mul-one cost) (omega arith)
 
-pub share-fits-word : (period cost spread w : ℕ) → LoadFits (load period cost spread) → w ≤ 1000000000 → (begun : ℕ) →
-    begun ≡ ceilDiv (w + spread) period → cost * begun ≤ 1001000000000000
-share-fits-word period cost spread w f h begun e = rw (share-is period cost spread w begun e) (share-high w (load period cost spread) f h)
+  module _ (begun : ℕ) (is : begun ≡ ceilDiv (w + spread) period) where
+    pub begun-low : 1 ≤ begun
+    begun-low = omega (arith, is, positive (w + spread) period (f .periodLow) (omega arith))
 
--- what is known once k loads are summed
-pub record Summing (periods costs spreads : List ℕ) (count w base k sum : ℕ) : Type 0 where
-  pub fit : LoadsFit periods costs spreads count
-  pub small : w ≤ 1000000000
-  pub baseSmall : base < 2 ^ 32
-  pub within : k ≤ count
-  pub sums : sum ≡ demand base (loadsTo periods costs spreads k) w
-  pub high : sum ≤ base + k * 1001000000000000
+    pub more-is : cost * (begun - 1) ≡ more w (load period cost spread)
+    more-is = rw (sym is) (one-less cost begun)
+      where
+        one-less : (c b : ℕ) → c * (b - 1) ≡ c * b - c
+        one-less c zero = simp unary-clauses (omega arith)
+        one-less c (suc b) = simp unary-clauses (omega arith)
 
-module _ (periods costs spreads : List ℕ) (count w base : ℕ) where
-  pub summing-none : LoadsFit periods costs spreads count → w ≤ 1000000000 → base < 2 ^ 32 → Summing periods costs spreads count w base 0 base
-  summing-none f h b =
-      record {
-        fit = f;
-        small = h;
-        baseSmall = b;
-        within = omega arith;
-        sums = rw (tabulate-none (loadAt periods costs spreads), demand-none);
-        high = omega arith;
-      }
+    pub more-fits : w ≤ 1000000000 → cost * (begun - 1) ≤ 1001000000000000
+    more-fits h = rw more-is (omega (arith, share-high w (load period cost spread) f h))
 
-  -- the share of the load at k fits
-  pub share-fits : (k sum one : ℕ) → Summing periods costs spreads count w base k sum → k < count →
-      one ≡ share w (loadAt periods costs spreads k) → one ≤ 1001000000000000
-  share-fits k sum one s h e = rw e (share-high w (loadAt periods costs spreads k) (s .fit .each k h) (s .small))
+-- one load after the other
+module _ (periods costs spreads : List ℕ) (to w : ℕ) (fit : LoadsFit periods costs spreads to) (high : w ≤ 1000000000) where
+  more-high : (k : ℕ) → k < to → moreAt periods costs spreads w k ≤ 1001000000000000
+  more-high k h = omega (arith, share-high w (loadAt periods costs spreads k) (fit .each k h) high)
 
-  pub summing-more : (k sum one : ℕ) → Summing periods costs spreads count w base k sum → k < count →
-      one ≡ share w (loadAt periods costs spreads k) → Summing periods costs spreads count w base (k + 1) (sum + one)
-  summing-more k sum one s h e =
-      record {
-        fit = s .fit;
-        small = s .small;
-        baseSmall = s .baseSmall;
-        within = omega arith;
-        sums =
-            rw (tabulate-more (loadAt periods costs spreads) k, demand-more, e, s .sums);
-        high = omega (arith, s .high, share-fits k sum one s h e);
-      }
+  -- all that is asked for fits 64 bits, and so does each part of it
+  total-fits : total (moreAt periods costs spreads w) to ≤ 200200000000000000
+  total-fits = omega (arith, total-high (moreAt periods costs spreads w) to 1001000000000000 more-high, fit .few)
 
-  -- once no load is left, k is the count
-  pub summed-all : (k sum : ℕ) → Summing periods costs spreads count w base k sum → count ≤ k → k ≡ count
-  summed-all k sum s h = omega (arith, s .within)
+  pub part-fits : (from end part : ℕ) → part ≡ total (moreAt periods costs spreads w) end - total (moreAt periods costs spreads w) from → end ≤ to →
+      part ≤ 200200000000000000
+  part-fits from end part is h = omega (arith, is, total-longer (moreAt periods costs spreads w) end to h, total-fits)
+
+-- what is known once the loads of the places from `from` on and before k are summed
+pub record Summing (periods costs spreads : List ℕ) (from to w k sum : ℕ) : Type 0 where
+  pub fit : LoadsFit periods costs spreads to
+  pub low : 1 ≤ w
+  pub high : w ≤ 1000000000
+  pub begun : from ≤ k
+  pub within : k ≤ to
+  pub sums : sum + total (moreAt periods costs spreads w) from ≡ total (moreAt periods costs spreads w) k
+
+module _ (periods costs spreads : List ℕ) (from to w : ℕ) where
+  pub summing-none : LoadsFit periods costs spreads to → 1 ≤ w → w ≤ 1000000000 → from ≤ to → Summing periods costs spreads from to w from 0
+  summing-none f low high h =
+      record { fit = f; low = low; high = high; begun = le-refl from; within = h; sums = omega arith }
+
+  module _ (k sum one : ℕ) (s : Summing periods costs spreads from to w k sum) (h : k < to) (is : one ≡ moreAt periods costs spreads w k) where
+    pub summing-fits : sum + one ≤ 200200000000000000
+    summing-fits =
+        omega (
+          arith,
+          is,
+          s .sums,
+          total-more (moreAt periods costs spreads w) k,
+          total-longer (moreAt periods costs spreads w) (k + 1) to (omega arith),
+          total-fits periods costs spreads to w (s .fit) (s .high),
+        )
+
+    pub summing-more : Summing periods costs spreads from to w (k + 1) (sum + one)
+    summing-more =
+        record {
+          fit = s .fit;
+          low = s .low;
+          high = s .high;
+          begun = omega (arith, s .begun);
+          within = omega arith;
+          sums = omega (arith, is, s .sums, total-more (moreAt periods costs spreads w) k);
+        }
+
+  pub summed-all : (k sum : ℕ) → Summing periods costs spreads from to w k sum → to ≤ k →
+      sum ≡ total (moreAt periods costs spreads w) to - total (moreAt periods costs spreads w) from
+  summed-all k sum s h =
+      let all : k ≡ to = omega (arith, s .within) in
+      omega (arith, s .sums, ap (total (moreAt periods costs spreads w)) all)
 
 -- the slices hold fewer loads too
 pub loads-less : {periods costs spreads : List ℕ} {n k : ℕ} → LoadsFit periods costs spreads n → k ≤ n → LoadsFit periods costs spreads k
@@ -83,28 +113,64 @@ loads-less f h =
       each = λ j l. f .each j (omega arith);
     }
 
--- without the own place: where it is not one of them, and where it is
-module _ {periods costs spreads : List ℕ} {count : ℕ} (fit : LoadsFit periods costs spreads count) (base w own all : ℕ)
-    (is : all ≡ demand base (loadsTo periods costs spreads count) w) where
+-- the demand is one cost of each load, and what they ask for besides, without the own place: where it is not one of them, and where it is
+module _ {periods costs spreads : List ℕ} {count : ℕ} (fit : LoadsFit periods costs spreads count) (base w own others : ℕ) (low : 1 ≤ w)
+    (high : w ≤ 1000000000) (once : others ≡ sumOf costOf (loads periods costs spreads own count)) where
   abbrev loadOn : ℕ → Load
   loadOn = loadAt periods costs spreads
 
-  pub demand-all : count ≤ own → all ≡ demand base (loads periods costs spreads own count) w
-  demand-all h = is ∙ ap (λ (ls : List Load). demand base ls w) (sym (gather-all (isOther own) loadOn count (λ k l. other-is own k (omega arith))))
+  abbrev moreOn : ℕ → ℕ
+  moreOn = moreAt periods costs spreads w
 
-  apart : own < count → demand base (loads periods costs spreads own count) w + share w (loadOn own) ≡ all
+  abbrev costOn : ℕ → ℕ
+  costOn k = costOf (loadOn k)
+
+  abbrev shareOn : ℕ → ℕ
+  shareOn k = share w (loadOn k)
+
+  -- a share is its cost and what is more
+  share-parts : (k : ℕ) → k < count → shareOn k ≡ moreOn k + costOn k
+  share-parts k h =
+      let l = loadOn k in
+      omega (arith, mul-le-mul-left (l .cost) (positive (w + l .spread) (l .period) (fit .each k h .periodLow) (omega arith)), mul-one (l .cost))
+
+  all-parts : total shareOn count ≡ total moreOn count + total costOn count
+  all-parts = total-same shareOn (λ k. moreOn k + costOn k) count share-parts ∙ total-add moreOn costOn count
+
+  pub demand-alone : count ≤ own → (all : ℕ) → all ≡ total moreOn count - total moreOn 0 →
+      base + others + all ≡ demand base (loads periods costs spreads own count) w
   unfolding demand
-  apart h =
+  demand-alone h all is =
+      let same = gather-all (isOther own) loadOn count (λ k l. other-is own k (omega arith)) in
       omega (
         arith,
         is,
-        gather-sum (isOther own) loadOn (share w) count,
+        once,
+        total-none moreOn,
+        ap (sumOf costOf) same,
+        ap (sumOf (share w)) same,
+        sum-tabulate costOf loadOn count,
         sum-tabulate (share w) loadOn count,
-        total-other (λ k. share w (loadOn k)) own count h,
+        all-parts,
       )
 
-  pub demand-without : own < count → (one : ℕ) → one ≡ share w (loadOn own) → all - one ≡ demand base (loads periods costs spreads own count) w
-  demand-without h one e = omega (arith, e, apart h)
-
-  pub own-inside : own < count → (one : ℕ) → one ≡ share w (loadOn own) → one ≤ all
-  own-inside h one e = omega (arith, e, apart h)
+  pub demand-around : own < count → (before behind : ℕ) → before ≡ total moreOn own - total moreOn 0 →
+      behind ≡ total moreOn count - total moreOn (own + 1) →
+      base + others + before + behind ≡ demand base (loads periods costs spreads own count) w
+  unfolding demand
+  demand-around h before behind first second =
+      omega (
+        arith,
+        first,
+        second,
+        once,
+        total-none moreOn,
+        total-more moreOn own,
+        total-longer moreOn (own + 1) count (omega arith),
+        gather-sum (isOther own) loadOn costOf count,
+        gather-sum (isOther own) loadOn (share w) count,
+        total-other costOn own count h,
+        total-other shareOn own count h,
+        share-parts own h,
+        all-parts,
+      )

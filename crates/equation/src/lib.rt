@@ -1,10 +1,11 @@
 // Joseph and Pandya's equation, over numbers alone: no bytes, no tables, no tasks.
 ghost use mathlib.Core.Path.{_≡_};
-ghost use Prim.Native.Nat.{_+_, _≤_};
+ghost use Prim.Native.Nat.{_+_, _-_, _≤_};
+ghost use Rattle.model.specs.Lists.{total, sumOf};
 ghost use Rattle.equation.specs.Rounding.{ceilDiv};
 ghost use Rattle.equation.specs.Demand as spec;
-ghost use Rattle.equation.specs.Demand.{share};
-ghost use Rattle.equation.specs.Slices.{load, loadsTo, loads, LoadFits, LoadsFit};
+ghost use Rattle.equation.specs.Slices.{load, loads, more, moreAt, LoadFits, LoadsFit};
+ghost use Rattle.equation.specs.Laws.{costOf};
 ghost use Rattle.equation.specs.Starts.{firstTerm};
 use model::Ticks;
 
@@ -41,36 +42,41 @@ pub fn div_up(n: Ticks, d: Ticks) -> u32
     (n.0 - 1) / d.0 + 1
 }
 
-// What a load asks for in w ticks. It does not fit 32 bits.
-fn share_of(period: Ticks, cost: Ticks, spread: Ticks, w: Ticks) -> u64
-    requires { ⌜ LoadFits (load (period .0) (cost .0) (spread .0)) × (w .0 ≤ 1000000000) ⌝ }
-    ensures { λ r. ⌜ r ≡ share (w .0) (load (period .0) (cost .0) (spread .0)) ⌝ }
+// What a load asks for in w ticks, at least one, beside the cost that it asks for in any: nothing where one period covers them. It does not fit
+// 32 bits.
+fn more_of(period: Ticks, cost: Ticks, spread: Ticks, w: Ticks) -> u64
+    requires { ⌜ LoadFits (load (period .0) (cost .0) (spread .0)) × (1 ≤ w .0) × (w .0 ≤ 1000000000) ⌝ }
+    ensures { λ r. ⌜ r ≡ more (w .0) (load (period .0) (cost .0) (spread .0)) ⌝ }
 {
-    let begun = div_up(Ticks(w.0 + spread.0), period);
-    (cost.0 as u64) * (begun as u64)
+    let window = Ticks(w.0 + spread.0);
+    if window.0 <= period.0 {
+        return 0;
+    }
+    (cost.0 as u64) * ((div_up(window, period) - 1) as u64)
 }
 
-// What `base` and the loads of the first `count` places ask for in w ticks.
-fn asked(
+// The same of the loads of some places, those from `from` on and before `to`.
+fn more_between(
     periods: &[u32],
     costs: &[u32],
     spreads: &[u32],
-    count: usize,
-    base: Ticks,
+    from: usize,
+    to: usize,
     w: Ticks,
 ) -> u64
-    requires { ⌜ LoadsFit (now periods) (now costs) (now spreads) count ⌝ }
-    requires { ⌜ w .0 ≤ 1000000000 ⌝ }
-    ensures { λ r. ⌜ r ≡ spec.demand (base .0) (loadsTo (now (periods .entry)) (now (costs .entry)) (now (spreads .entry)) count) (w .0) ⌝ }
+    requires { ⌜ LoadsFit (now periods) (now costs) (now spreads) to × (from ≤ to) ⌝ }
+    requires { ⌜ (1 ≤ w .0) × (w .0 ≤ 1000000000) ⌝ }
+    ensures { λ r. ⌜ r ≡ total (moreAt (now (periods .entry)) (now (costs .entry)) (now (spreads .entry)) (w .0)) to - total (moreAt (now (periods .entry)) (now (costs .entry)) (now (spreads .entry)) (w .0)) from ⌝ }
 {
-    let mut sum = base.0 as u64;
-    for k in 0..count {
-        sum += share_of(Ticks(periods[k]), Ticks(costs[k]), Ticks(spreads[k]), w);
+    let mut sum: u64 = 0;
+    for k in from..to {
+        sum += more_of(Ticks(periods[k]), Ticks(costs[k]), Ticks(spreads[k]), w);
     }
     sum
 }
 
-// What the task at place `own` and its loads ask for in w ticks: those of the first `count` places without its own.
+// What the task at place `own` and its loads ask for in w ticks, at least one: the loads are those of the first `count` places without its own,
+// and `others` is one cost of each.
 pub fn demand(
     periods: &[u32],
     costs: &[u32],
@@ -78,21 +84,18 @@ pub fn demand(
     own: usize,
     count: usize,
     base: Ticks,
+    others: Ticks,
     w: Ticks,
 ) -> u64
-    requires { ⌜ LoadsFit (now periods) (now costs) (now spreads) count ⌝ }
-    requires { ⌜ w .0 ≤ 1000000000 ⌝ }
+    requires { ⌜ LoadsFit (now periods) (now costs) (now spreads) count × (others .0 ≡ sumOf costOf (loads (now periods) (now costs) (now spreads) own count)) ⌝ }
+    requires { ⌜ (1 ≤ w .0) × (w .0 ≤ 1000000000) ⌝ }
     ensures { λ r. ⌜ r ≡ spec.demand (base .0) (loads (now (periods .entry)) (now (costs .entry)) (now (spreads .entry)) own count) (w .0) ⌝ }
 {
-    let all = asked(periods, costs, spreads, count, base, w);
+    let once = (base.0 as u64) + (others.0 as u64);
     if count <= own {
-        return all;
+        return once + more_between(periods, costs, spreads, 0, count, w);
     }
-    all
-        - share_of(
-            Ticks(periods[own]),
-            Ticks(costs[own]),
-            Ticks(spreads[own]),
-            w,
-        )
+    let before = more_between(periods, costs, spreads, 0, own, w);
+    let behind = more_between(periods, costs, spreads, own + 1, count, w);
+    once + before + behind
 }

@@ -4,7 +4,8 @@ use Prim.Native.Nat.{ℕ, zero, suc, _+_, _*_, _≤_, _<_}
 use native.Mathlib.Nat.{lt-suc-self, le-refl}
 use native.Mathlib.Numerals.{add-one}
 use native.Mathlib.Omega.{arith}
-use mathlib.Core.Path.{_≡_, refl}
+use native.Mathlib.Decide.{ℕ-discrete}
+use mathlib.Core.Path.{_≡_, refl, ap}
 use Rattle.model.specs.Lists.{total}
 
 pub total-none : (f : ℕ → ℕ) → total f 0 ≡ 0
@@ -35,3 +36,13 @@ pub total-high : (f : ℕ → ℕ) (n high : ℕ) → ((k : ℕ) → k < n → f
 unfolding total
 total-high f zero high each = omega arith
 total-high f (suc n) high each = omega (arith, total-high f n high (λ k l. each k (omega arith)), each n (omega arith))
+
+-- a longer sum is no smaller
+pub total-longer : (f : ℕ → ℕ) (n m : ℕ) → n ≤ m → total f n ≤ total f m
+unfolding total
+total-longer f n zero h = let e : n ≡ 0 = omega arith in omega (arith, ap (total f) e)
+total-longer f n (suc m) h =
+    elim (ℕ-discrete n (suc m)) [
+      | yes e ↦ omega (arith, ap (total f) e)
+      | no e ↦ omega (arith, total-longer f n m (omega arith))
+    ]

@@ -2,8 +2,8 @@
 -- Assumes nothing.
 use Prim.Native.Nat.{ℕ, zero, suc, _+_, _*_, _/_, _%_, _^_, _≤_, _<_}
 use native.Mathlib.Omega.{arith}
-use native.Mathlib.Decide.{decLe, ℕ-discrete}
-use mathlib.Core.Path.{_≡_, refl, _∙_, ap}
+use native.Mathlib.Decide.{decLe}
+use mathlib.Core.Path.{_≡_, refl, _∙_}
 use mathlib.Core.Logic.{inl, inr}
 use mathlib.Core.List.{List, [], _∷_, _++_}
 use lib.ListN.{length, getD, length-append}
@@ -87,13 +87,3 @@ lines-long bytes answers rounds (suc n) small =
       lines-long bytes answers rounds n (λ i h. small i (omega arith)),
       task-line-long n (getD answers n 0) (deadlineShown bytes n) (getD rounds n 0) (small n (omega arith)),
     )
-
--- a sum of more places is no smaller
-pub total-longer : (f : ℕ → ℕ) (n m : ℕ) → n ≤ m → total f n ≤ total f m
-unfolding total
-total-longer f n zero h = let e : n ≡ 0 = omega arith in omega (arith, ap (total f) e)
-total-longer f n (suc m) h =
-    elim (ℕ-discrete n (suc m)) [
-      | yes e ↦ omega (arith, ap (total f) e)
-      | no e ↦ omega (arith, total-longer f n m (omega arith))
-    ]

@@ -13,6 +13,7 @@ use Rattle.model.specs.Lists.{tabulate, total, wordOf, sumOf}
 use Rattle.model.specs.Search.{firstFrom}
 use Rattle.model.specs.Tables.{Task, taskOf, loadsOf}
 use Rattle.model.proofs.Tests.{ltb?}
+use Rattle.model.proofs.Totals.{total-longer}
 use Rattle.tables.specs.declared.Refusal.{Refusal}
 use Rattle.tables.specs.declared.Refusal.the-variants.{TooShort, UnknownVersion, CountOutOfRange, LengthsDiffer, NumberOutOfRange, PriorityOutOfOrder, SectionRow, NoRoom, NotPlayable}
 use Rattle.tables.specs.Fields.{taskCountField, costField, deadlineField}
@@ -38,7 +39,7 @@ use Rattle.printing.specs.Text.{bytesOf, textOf, decimalOf, withNumber, 
 use Rattle.printing.specs.Answered.{zeros, answerText}
 use Rattle.printing.specs.Longest.{longest, TextFits, LongestReached, Whole, TextWhole}
 use Rattle.printing.proofs.AppendLaws.{text-is, behind, part-length}
-use Rattle.printing.proofs.LengthLaws.{digitCount, few-digits, number-long, line-long, Small, lines-long, total-longer}
+use Rattle.printing.proofs.LengthLaws.{digitCount, few-digits, number-long, line-long, Small, lines-long}
 
 -- a refusal's line
 number-small : (refusal : Refusal) → numberOf refusal ≤ 9

@@ -1,55 +1,72 @@
--- `equation::demand` meets its contract: all that is asked for, without the share of the own place where that is in it.
+-- `equation::demand` meets its contract: one cost of each load, and what the places before the own and those behind it ask for besides.
 -- Assumes nothing.
 use native.Mathlib.Omega.{arith}
-use Rattle.equation.proofs.SliceLaws.{demand-all, demand-without, own-inside}
+use Rattle.equation.proofs.SliceLaws.{part-fits, loads-less, demand-alone, demand-around}
+use borrow.Author.Needs.{needs}
 use Rattle.equation.proofs.demand.Statement.{statement}
 use Rattle.equation.proofs.demand.Tie as tie
 
-asked-requires : tie.Need-asked-requires
-asked-requires c κs = (c .before .before .before .pre .0, c .before .before .before .pre .1)
+-- src/lib.rt:94:17
+cast-once : tie.Need-cast-once
+cast-once c = search needs
 
+-- src/lib.rt:94:35
+cast-once-2 : tie.Need-cast-once-2
+cast-once-2 c = search needs
+
+-- src/lib.rt:94:16
+add-once : tie.Need-add-once
+add-once c = search needs
+
+-- src/lib.rt:96:23
+more-between-requires : tie.Need-more-between-requires
+more-between-requires c κs = search needs
+
+-- src/lib.rt:96:16
+add-result : tie.Need-add-result
+add-result c = omega (arith, part-fits _ _ _ _ _ (c .before .before .before .before .before .before .before .pre .0 .0) (c .before .before .before .before .before .before .before .pre .1 .1) _ _ _ (c .more-between .ensures) (omega arith))
+
+-- src/lib.rt:96:9
 returns : tie.Need-returns
-returns c = demand-all (c .before .before .before .before .before .pre .0) _ _ _ _ (c .before .asked .ensures) (c .if1 .taken)
+returns c = demand-alone (c .before .before .before .before .before .before .before .pre .0 .0) _ _ _ _ (c .before .before .before .before .before .before .before .pre .1 .0) (c .before .before .before .before .before .before .before .pre .1 .1) (c .before .before .before .before .before .before .before .pre .0 .1) (omega (arith, c .before .if1 .taken)) _ (c .more-between .ensures)
 
-mul-t11 : tie.Need-mul-t11
-mul-t11 c = omega (arith, c .before .before .before .before .before .pre .0 .few, c .if1 .left)
+-- src/lib.rt:98:9
+more-between-requires-2 : tie.Need-more-between-requires-2
+more-between-requires-2 c κs = ((loads-less (c .before .before .before .before .before .before .pre .0 .0) (omega (arith, c .if1 .left)), omega arith), (c .before .before .before .before .before .before .pre .1 .0, c .before .before .before .before .before .before .pre .1 .1))
 
-shared-slice-read-t13 : tie.Need-shared-slice-read-t13
-shared-slice-read-t13 c = omega (arith, c .before .before .before .before .before .before .pre .0 .periodsLong, c .before .if1 .left)
+-- src/lib.rt:99:56
+add-more-between : tie.Need-add-more-between
+add-more-between c = search needs
 
-mul-t15 : tie.Need-mul-t15
-mul-t15 c = omega (arith, c .before .before .before .before .before .before .pre .0 .few, c .before .if1 .left)
+-- src/lib.rt:99:9
+more-between-requires-3 : tie.Need-more-between-requires-3
+more-between-requires-3 c κs = search needs
 
-shared-slice-read-t17 : tie.Need-shared-slice-read-t17
-shared-slice-read-t17 c = omega (arith, c .before .before .before .before .before .before .before .pre .0 .costsLong, c .before .before .if1 .left)
+-- src/lib.rt:100:5
+add-result-2 : tie.Need-add-result-2
+add-result-2 c = omega (arith, part-fits _ _ _ _ _ (c .before .before .before .before .before .before .before .before .pre .0 .0) (c .before .before .before .before .before .before .before .before .pre .1 .1) _ _ _ (c .before .more-between2 .ensures) (omega (arith, c .before .before .if1 .left)))
 
-mul-t19 : tie.Need-mul-t19
-mul-t19 c = omega (arith, c .before .before .before .before .before .before .before .pre .0 .few, c .before .before .if1 .left)
+-- src/lib.rt:100:5
+add-result-3 : tie.Need-add-result-3
+add-result-3 c = omega (arith, part-fits _ _ _ _ _ (c .before .before .before .before .before .before .before .before .pre .0 .0) (c .before .before .before .before .before .before .before .before .pre .1 .1) _ _ _ (c .before .more-between2 .ensures) (omega (arith, c .before .before .if1 .left)), part-fits _ _ _ _ _ (c .before .before .before .before .before .before .before .before .pre .0 .0) (c .before .before .before .before .before .before .before .before .pre .1 .1) _ _ _ (c .more-between3 .ensures) (omega arith))
 
-shared-slice-read-t21 : tie.Need-shared-slice-read-t21
-shared-slice-read-t21 c = omega (arith, c .before .before .before .before .before .before .before .before .pre .0 .spreadsLong, c .before .before .before .if1 .left)
-
-share-of-requires : tie.Need-share-of-requires
-share-of-requires c κs = (c .before .before .before .before .before .before .before .before .pre .0 .each _ (c .before .before .before .if1 .left), c .before .before .before .before .before .before .before .before .pre .1)
-
-sub-result : tie.Need-sub-result
-sub-result c = own-inside (c .before .before .before .before .before .before .before .before .before .pre .0) _ _ _ _ (c .before .before .before .before .before .asked .ensures) (c .before .before .before .before .if1 .left) _ (c .share-of .ensures)
-
+-- src/lib.rt:80:1
 returns-2 : tie.Need-returns-2
-returns-2 c = demand-without (c .before .before .before .before .before .before .before .before .before .pre .0) _ _ _ _ (c .before .before .before .before .before .asked .ensures) (c .before .before .before .before .if1 .left) _ (c .share-of .ensures)
+returns-2 c = demand-around (c .before .before .before .before .before .before .before .before .pre .0 .0) _ _ _ _ (c .before .before .before .before .before .before .before .before .pre .1 .0) (c .before .before .before .before .before .before .before .before .pre .1 .1) (c .before .before .before .before .before .before .before .before .pre .0 .1) (omega (arith, c .before .before .if1 .left)) _ _ (c .before .more-between2 .ensures) (c .more-between3 .ensures)
 
 pub demand-spec : {M : Type 1} → statement M
 demand-spec =
     tie.close
     (tie.spec
-    asked-requires
+    cast-once
+    cast-once-2
+    add-once
+    more-between-requires
+    add-result
     returns
-    mul-t11
-    shared-slice-read-t13
-    mul-t15
-    shared-slice-read-t17
-    mul-t19
-    shared-slice-read-t21
-    share-of-requires
-    sub-result
+    more-between-requires-2
+    add-more-between
+    more-between-requires-3
+    add-result-2
+    add-result-3
     returns-2)
