@@ -6,8 +6,8 @@ as document 01 lays them out, looks for each task's answer by search, and plays
 runs tick by tick. The engine of document 02, L1, is played from event to event, and
 knows nothing of the equation. Sentences in double quotation marks are document 01's,
 or L1's where the engine is spoken of, L3's where the places of refusals are, L4's
-where version 2 or delays are, L5's where the starts are, and L6's where tasks that share a
-priority are.
+where version 2 or delays are, L5's where the starts are, L6's where tasks that share a
+priority are, and L7's where claims are.
 
 Needs Python 3.7 or later and nothing else.
 """
@@ -183,15 +183,30 @@ def check_rows(layout, rows, tasks):
         before = row
 
 
-def read_table(data, answers_length, rounds_length):
-    """Gives the tasks and the rows, or raises the first refusal that applies."""
+def read_bytes(data):
+    """Gives the tasks and the rows, or raises the first of refusals 1 to 7 that applies."""
     layout, task_count, row_count = check_header(data)
     tasks = [read_task(data, layout, number) for number in range(task_count)]
     check_tasks(layout, tasks)
     rows = [read_row(data, layout, task_count, number) for number in range(row_count)]
     check_rows(layout, rows, tasks)
+    return tasks, rows
+
+
+def read_table(data, answers_length, rounds_length):
+    """The same with refusal 8."""
+    tasks, rows = read_bytes(data)
     # "an answer slice has fewer than n words"
-    refuse_when(min(answers_length, rounds_length) < task_count, 8)
+    refuse_when(min(answers_length, rounds_length) < len(tasks), 8)
+    return tasks, rows
+
+
+def read_claimed(data, claims):
+    """The same with refusal 10 in place of 8."""
+    # "Refusals 1 to 7 come first; then a claim list with fewer or more words than tasks is refused
+    # with 10, place 0."
+    tasks, rows = read_bytes(data)
+    refuse_when(len(claims) != len(tasks), 10)
     return tasks, rows
 
 
@@ -328,6 +343,36 @@ def sequence_from(start, task, base, loads):
 def rounds_of(tasks, rows, start=DEFAULT_START):
     return [sequence_from(start, task, *parts_of(place, tasks, rows)).rounds
             for place, task in enumerate(tasks)]
+
+
+# ---------------------------------------------------------------------------
+# Claimed response times
+# ---------------------------------------------------------------------------
+
+def claim_passes(claim, task, base, loads):
+    # "claim r passes if w = r minus the latest delay is at least 1, r is within the deadline, and
+    # demand at w is at most w".
+    window = claim - task.latest
+    return window >= 1 and claim <= task.deadline and demand(base, loads, window) <= window
+
+
+def failing_claims(tasks, rows, claims):
+    """The places of the claims that fail. Each is looked at "once, without iterating"."""
+    return [place for place, (task, claim) in enumerate(zip(tasks, claims))
+            if not claim_passes(claim, task, *parts_of(place, tasks, rows))]
+
+
+def failing_line(places):
+    # "the answer is pass, or the first place that fails".
+    return "fails %d" % places[0] if places else "pass"
+
+
+def claimed_line(data, claims):
+    try:
+        tasks, rows = read_claimed(data, claims)
+    except Refused as refusal:
+        return str(refusal)
+    return failing_line(failing_claims(tasks, rows, claims))
 
 
 # ---------------------------------------------------------------------------
@@ -2378,6 +2423,241 @@ def entry_text(number, entry):
 
 
 # ---------------------------------------------------------------------------
+# Made lists of claims
+# ---------------------------------------------------------------------------
+
+Claimed = collections.namedtuple("Claimed", "table claims")
+
+# As many as an entry's byte can tell.
+MOST_CLAIMS = 255
+
+# A demand of 2 and twice the first task's jobs: the second task's answer is 4; at 5 a second job of
+# the first counts, and at 6 there is time for it.
+STEPPED = worked([(4, 2, 4), (10, 2, 10)], [2, 4])
+
+# Tables, claims and what these get, worked out by hand.
+CLAIM_EXAMPLES = [
+    (STEPPED, [2, 4], "pass"),
+    (STEPPED, [2, 5], "fails 1"),
+    (STEPPED, [2, 6], "pass"),
+    (STEPPED, [4, 10], "pass"),
+    (STEPPED, [2, 3], "fails 1"),
+    (STEPPED, [2, 11], "fails 1"),
+    (STEPPED, [5, 11], "fails 0"),
+    (STEPPED, [1, 5], "fails 0"),
+    (STEPPED, [0, 0], "fails 0"),
+    (STEPPED, [2], "refused 10 at 0"),
+    (STEPPED, [2, 4, 4], "refused 10 at 0"),
+    (STEPPED, [], "refused 10 at 0"),
+    # Sections: the second task is blocked for 5 ticks. At 11 it has to wait for a second job.
+    (WORKED_TABLES[12], [2, 10, 19, 26], "pass"),
+    (WORKED_TABLES[12], [2, 9, 19, 26], "fails 1"),
+    (WORKED_TABLES[12], [2, 11, 19, 26], "fails 1"),
+    (WORKED_TABLES[12], [5, 12, 40, 50], "pass"),
+    (WORKED_TABLES[12], [5, 12, 40, 51], "fails 3"),
+    # A late task: no claim passes for it.
+    (WORKED_TABLES[7], [1, 3, 3], "fails 2"),
+    (WORKED_TABLES[7], [1, 3, 4], "fails 2"),
+    # Jitter 10: it is taken off the first claim, and lets a second job in.
+    (WORKED_TABLES[10], [20, 25], "fails 1"),
+    (WORKED_TABLES[10], [10, 25], "fails 0"),
+    # Equal tasks wait for each other.
+    (GROUP_TABLES[1], [2, 2], "pass"),
+    (GROUP_TABLES[1], [1, 2], "fails 0"),
+    (GROUP_TABLES[1], [2, 1], "fails 1"),
+    (GROUP_TABLES[9], [11, 11, 17, 17], "pass"),
+    (GROUP_TABLES[9], [11, 10, 17, 17], "fails 1"),
+]
+
+
+def sound_claims(tasks, responses):
+    """The true answers, and the deadline for a task that has none."""
+    return [response or task.deadline for task, response in zip(tasks, responses)]
+
+
+def moved_claims(claims, by):
+    """No word is below 0."""
+    return [max(0, claim + by) for claim in claims]
+
+
+def with_claim(claims, place, claim):
+    return claims[:place] + [claim] + claims[place + 1:]
+
+
+def edge_claims(task):
+    """0, about the latest delay, that with the cost (no less can pass), about the deadline, and the
+    greatest word."""
+    latest, deadline = task.latest, task.deadline
+    return [0, max(0, latest - 1), latest, latest + 1, latest + task.cost, deadline, deadline + 1,
+            GREATEST_WORD]
+
+
+def near_claims(responses):
+    """The true answers; a tick more and a tick less, for all tasks and for one."""
+    yield responses
+    for by in (1, -1):
+        near = moved_claims(responses, by)
+        yield near
+        for place in ends_of(len(responses)):
+            yield with_claim(responses, place, near[place])
+
+
+def claims_at_edges(tasks, sound):
+    """Each edge for all tasks, and for the first, the middle or the last alone."""
+    places = itertools.cycle(ends_of(len(tasks)))
+    for claims in zip(*map(edge_claims, tasks)):
+        place = next(places)
+        yield list(claims)
+        yield with_claim(sound, place, claims[place])
+
+
+def passing_claim(generator, task, parts, sound):
+    """One that passes, from the sound one to the deadline; the sound one where none is found."""
+    drawn = [generator.between(sound, task.deadline) for _ in range(6)]
+    return next((claim for claim in drawn if claim_passes(claim, task, *parts)), sound)
+
+
+def drawn_claims(generator, tasks, rows, sound):
+    """Any; such as pass, where nobody is late; and those with any one for one task."""
+    parts = [parts_of(place, tasks, rows) for place in range(len(tasks))]
+    for place in ends_of(len(tasks)):
+        any_claims = [generator.between(0, task.deadline + 1) for task in tasks]
+        passing = [passing_claim(generator, *each) for each in zip(tasks, parts, sound)]
+        yield any_claims
+        yield passing
+        yield with_claim(passing, place, any_claims[place])
+
+
+def miscounted_claims(claims):
+    """One too few, one too many, and none."""
+    return [claims[:-1], claims + claims[-1:], []]
+
+
+def claim_lists(generator, tasks, rows):
+    responses = responses_of(tasks, rows)
+    sound = sound_claims(tasks, responses)
+    lists = itertools.chain(near_claims(responses), claims_at_edges(tasks, sound),
+                            drawn_claims(generator, tasks, rows, sound), miscounted_claims(sound))
+    # Each list once.
+    return [list(claims) for claims in dict.fromkeys(map(tuple, lists))]
+
+
+def all_lists(generator, data):
+    for claims in claim_lists(generator, *read_bytes(data)):
+        yield Claimed(data, claims)
+
+
+def some_lists(generator, data, how_many):
+    """The true answers, and so many of the others."""
+    lists = claim_lists(generator, *read_bytes(data))
+    chosen = sorted(generator.sample(range(1, len(lists)), min(how_many, len(lists) - 1)))
+    for number in [0] + chosen:
+        yield Claimed(data, lists[number])
+
+
+def printed_tables():
+    """Those of the documents, and those worked out by hand."""
+    for table in WORKED_TABLES + [STEPPED]:
+        yield Draft(table.tasks, table.rows).data()
+    for table in DELAY_TABLES + START_TABLES:
+        yield Draft(table.tasks, table.rows, 2).data()
+    for entry in in_both_versions(GROUP_TABLES[:-2]):
+        yield entry.table
+
+
+def schedulable_table(generator, make, version):
+    while True:
+        tasks, rows = make(generator, version)
+        if len(tasks) > 1 and is_schedulable(tasks, rows):
+            return tasks, rows
+
+
+def made_claim_tables(generator):
+    """Small tables, without ties and with them, every second one schedulable for certain; deadlines
+    about the answers; numbers at their limits; more work than ticks."""
+    for version in LAYOUTS:
+        for make in (any_small_table, any_tied_table):
+            for _ in range(16):
+                yield Draft(*schedulable_table(generator, make, version), version).data()
+                yield Draft(*make(generator, version), version).data()
+            for entry in deadline_entries(generator, 10, version, make):
+                yield entry.table
+        for entry in limit_entries(generator, 12, version):
+            yield entry.table
+    for entry in overloaded_entries(generator, 12):
+        yield entry.table
+
+
+def wide_claim_tables(generator):
+    """32 tasks: late ones, and near full load, where nobody is late."""
+    for version, make in itertools.product(LAYOUTS, (made_table, made_tied_table)):
+        tasks, rows = make(generator, MOST_TASKS, generator.below(9), 50 * MOST_TASKS, version)
+        yield Draft(tasks, rows, version).data()
+    for row_count, version, group in ((0, 1, 1), (MOST_ROWS, 1, 1), (0, 2, 1), (MOST_ROWS, 2, 4)):
+        _, draft = loaded_draft(MOST_TASKS, row_count, [40, 50, 60, 70], version, group)
+        yield draft.data()
+
+
+def refused_claims(generator):
+    """Every fault in three records or rows, with as many claims as there are tasks, and with too
+    few, too many or none: refusals 1 to 7 come before 10."""
+    for version, number in itertools.product(LAYOUTS, range(3)):
+        for fault in itertools.chain(*FAULTS_BY_REFUSAL[version]):
+            draft = sound_draft(generator, version)
+            claims = sound_claims(draft.tasks, responses_of(draft.tasks, draft.rows))
+            if fault(draft, number) and can_be_written(draft):
+                yield Claimed(draft.data(), claims)
+                yield Claimed(draft.data(), generator.pick(miscounted_claims(claims)))
+
+
+def greatest_claims(generator):
+    """The largest sums, and such as pass 2^32: a claim of the cost alone would then pass."""
+    for data in itertools.chain(greatest_tables(), wrapping_tables(), greatest_group_tables()):
+        few = data[TASK_COUNT_BYTE] < MOST_TASKS
+        yield from all_lists(generator, data) if few else some_lists(generator, data, 3)
+
+
+def edges_claimed(generator):
+    """The edges of the documents; where n can be read, with n claims."""
+    for data, _ in itertools.chain(edge_tables(), delay_edges(), version_edges()):
+        count = min(data[TASK_COUNT_BYTE], MOST_TASKS) if len(data) > TASK_COUNT_BYTE else 0
+        yield Claimed(data, [generator.between(1, 40) for _ in range(count)])
+
+
+def many_claims():
+    """As many as an entry can have, and as many as there may be tasks, for fewer."""
+    fifth = Draft(listed(*FIFTH)).data()
+    for count in (MOST_TASKS - 1, MOST_TASKS, MOST_TASKS + 1, MOST_CLAIMS):
+        yield Claimed(fifth, [1, 3, 10] + [1] * (count - 3))
+
+
+def all_claims():
+    generator = Generator(SEED + 9)
+    for table, claims, _ in CLAIM_EXAMPLES:
+        yield Claimed(Draft(table.tasks, table.rows).data(), claims)
+    for data in printed_tables():
+        yield from all_lists(generator, data)
+    for data in made_claim_tables(generator):
+        yield from some_lists(generator, data, 9)
+    for data in wide_claim_tables(generator):
+        yield from some_lists(generator, data, 14)
+    yield from greatest_claims(generator)
+    yield from refused_claims(generator)
+    yield from edges_claimed(generator)
+    yield from many_claims()
+
+
+def claimed_bytes(claimed):
+    # The form is told in the help of make.
+    return (len(claimed.table).to_bytes(2, "big") + bytes([len(claimed.claims)]) + claimed.table
+            + b"".join(claim.to_bytes(4, "big") for claim in claimed.claims))
+
+
+def claimed_text(number, claimed):
+    return "claims %d\n%s\n" % (number, claimed_line(*claimed))
+
+
+# ---------------------------------------------------------------------------
 # A run, played tick by tick
 # ---------------------------------------------------------------------------
 
@@ -2910,18 +3190,102 @@ def check_engine(checks, entries):
     return taken
 
 
+def check_true_claims(checks, data, tasks, rows):
+    # "a schedulable table's true answers always pass"; of others the answer 0 fails alone.
+    responses = responses_of(tasks, rows)
+    late_places = [place for place, response in enumerate(responses) if response == 0]
+    checks.same(failing_claims(tasks, rows, responses), late_places,
+                "true answers of %r" % (tasks,))
+    checks.same(claimed_line(data, responses), failing_line(late_places),
+                "true answers of %r" % (tasks,))
+
+
+def check_passing(checks, claimed):
+    """A list that passes. Gives whether some claim is above the true answer."""
+    # "the table is schedulable and no true answer is above its claim".
+    tasks, rows = read_bytes(claimed.table)
+    responses = responses_of(tasks, rows)
+    fits = [0 < response <= claim for response, claim in zip(responses, claimed.claims)]
+    checks.same(fits, [True] * len(tasks), "claims %r of %r" % (claimed.claims, tasks))
+    return responses != claimed.claims
+
+
+def jobs_counted(load, window):
+    """How many jobs of a load begin before the end of a window, which its spread makes longer,
+    counted one by one."""
+    begun = 0
+    while begun * load.period < window + load.spread:
+        begun += 1
+    return begun
+
+
+def counted_claims(place, tasks, rows):
+    """The claims of a task that pass, from the jobs of every window up to its deadline."""
+    task = tasks[place]
+    base, loads = parts_of(place, tasks, rows)
+    return [window + task.latest for window in range(1, task.deadline - task.latest + 1)
+            if base + sum(load.cost * jobs_counted(load, window) for load in loads) <= window]
+
+
+def check_every_claim(checks, tasks, rows, version):
+    """Every claim from 0 to D + 1 for every task, with such for the others as pass, if any does."""
+    data = Draft(tasks, rows, version).data()
+    passing = [counted_claims(place, tasks, rows) for place in range(len(tasks))]
+    others = [claims[-1] if claims else task.deadline for task, claims in zip(tasks, passing)]
+    for place, task in enumerate(tasks):
+        # The true answer is the smallest claim that passes.
+        checks.same(min(passing[place], default=0), response_of(place, tasks, rows),
+                    "smallest claim for task %d of %r" % (place, tasks))
+        for claim in range(task.deadline + 2):
+            claims = with_claim(others, place, claim)
+            failing = [at for at, each in enumerate(claims) if each not in passing[at]]
+            checks.same(claimed_line(data, claims), failing_line(failing),
+                        "claims %r of %r" % (claims, tasks))
+
+
+def tiny_table(generator, version):
+    """Small enough for all its claims."""
+    count = generator.between(1, 5)
+    tasks, rows = made_table(generator, count, generator.pick([0, 0, count]),
+                             generator.pick([4, 9, 25]), version)
+    # A delay may be as long as the deadline and more, but not by much.
+    tasks = [task._replace(latest=min(task.latest, task.earliest + 30)) for task in tasks]
+    if count > 1 and generator.chance(1, 2):
+        tasks = with_groups(generator, tasks)
+    return tasks, rows
+
+
+def check_claims(checks, claimed):
+    """Gives how many of the made lists pass."""
+    for table, claims, wanted in CLAIM_EXAMPLES:
+        for version in LAYOUTS:
+            data = Draft(table.tasks, table.rows, version).data()
+            checks.same(claimed_line(data, claims), wanted,
+                        "claims %r of %r" % (claims, table.tasks))
+    generator = Generator(SEED + 10)
+    for _, version in itertools.product(range(150), LAYOUTS):
+        check_every_claim(checks, *tiny_table(generator, version), version)
+    passing = [each for each in claimed if claimed_line(*each) == "pass"]
+    # Both kinds turn up: the true answers, and others.
+    checks.same({check_passing(checks, each) for each in passing}, {True, False},
+                "claims above the true answers")
+    return len(passing)
+
+
 LONGEST_PLAIN_DEADLINE = 3000
 LONGEST_PLAYED_DEADLINE = 400
 
 
 def check_entries(checks, entries):
-    """All tables that "make" writes: both starts, both searches, and the run released together."""
+    """All tables that "make" writes: both starts, both searches, the true answers as claims, and
+    the run released together."""
     reached = set()
     for entry in entries:
         if refusal_of(entry):
             continue
         tasks, rows = read_table(*entry)
         reached |= check_starts(checks, tasks, rows)
+        check_true_claims(checks, entry.table, tasks, rows)
         longest = max(task.deadline for task in tasks)
         if longest <= LONGEST_PLAIN_DEADLINE:
             check_searches(checks, tasks, rows)
@@ -3335,14 +3699,19 @@ def write_file(folder, name, data):
 
 def command_make(arguments):
     entries = list(all_entries())
-    tables = b"".join(entry_bytes(entry) for entry in entries)
-    texts = (entry_text(number, entry) for number, entry in enumerate(entries))
+    claimed = list(all_claims())
+    tables = b"".join(map(entry_bytes, entries))
+    claims = b"".join(map(claimed_bytes, claimed))
+    texts = itertools.chain(map(entry_text, itertools.count(), entries),
+                            map(claimed_text, itertools.count(), claimed))
     expected = "".join(texts).encode("ascii")
     os.makedirs(arguments.folder, exist_ok=True)
     write_file(arguments.folder, "tables", tables)
+    write_file(arguments.folder, "claims", claims)
     write_file(arguments.folder, "expected", expected)
-    print("reference: %d tables, %d bytes of tables, %d bytes of answers"
-          % (len(entries), len(tables), len(expected)))
+    print("reference: %d tables, %d bytes of tables; %d lists of claims, %d bytes with their "
+          "tables; %d bytes of answers"
+          % (len(entries), len(tables), len(claimed), len(claims), len(expected)))
 
 
 def command_check(_arguments):
@@ -3357,10 +3726,12 @@ def command_check(_arguments):
     check_event_playing(checks)
     check_engine_edges(checks)
     taken = check_engine(checks, entries)
+    claimed = list(all_claims())
+    passing = check_claims(checks, claimed)
     if checks.failed:
         sys.exit("reference: %d of %d checks failed" % (checks.failed, checks.done))
-    print("reference: %d checks; the engine takes %d of %d tables"
-          % (checks.done, taken, len(entries)))
+    print("reference: %d checks; the engine takes %d of %d tables; %d of %d lists of claims pass"
+          % (checks.done, taken, len(entries), passing, len(claimed)))
 
 
 def command_runs(_arguments):
@@ -3395,7 +3766,7 @@ def command_plays(arguments):
         print("%s %d %s" % (playable.name, ticks, playable.title))
 
 
-MAKE_HELP = """writes FOLDER/tables and FOLDER/expected, the same bytes at every run
+MAKE_HELP = """writes FOLDER/tables, FOLDER/claims and FOLDER/expected, the same bytes at every run
 
 An entry of "tables" is 2 bytes, big-endian, with the table's length; 1 byte with the length in
 words of the slice lent for answers; 1 byte with that of the slice lent for rounds; and the
@@ -3408,6 +3779,11 @@ from the default start. The engine is lent a slice of as many words as that for 
 under test prints "changed" instead of "stayed" if a word past n, or any word on a refusal, is no
 longer the filler; and a further line "differs" if the engine's verdict or words are not the
 analysis's where neither refuses, or if a refusal of the engine's changed a word.)
+
+An entry of "claims" is 2 bytes, big-endian, with the table's length; 1 byte with the number of
+claims; the table's bytes; and each claim as 4 bytes, big-endian. Behind the lines of all tables
+"expected" holds for each entry K of "claims", counted from 0, a line "claims K" and a line with
+"pass", "fails" and the first place that fails, or the refusal.
 """ % (FILLER, FILLER)
 
 CLASSES_HELP = """writes one table for each class that is measured, FOLDER/NAME.table, and prints
