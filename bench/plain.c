@@ -4,6 +4,7 @@
  * without. Compiled with -DMARKS it keeps a mark for each load, as our library does.
  * plain_own_cost.c compiles it with OWN_COST, for L5's other start. */
 #include "plain.h"
+#include "plain_blocking.h"
 #include "plain_table.h"
 
 #ifdef OWN_COST
@@ -15,17 +16,6 @@
 /* In what follows, end is where the group of task i ends: the places before it have its priority or
  * a greater one. Less urgent tasks block, and all others but task i itself interfere (document 02,
  * L6). */
-
-static uint32_t blocking(const struct tasks *tasks, const struct rows *rows, size_t i, size_t end)
-{
-    uint32_t longest = 0;
-
-    for (size_t r = 0; r < rows->m; r++)
-        if (rows->place[r] >= end && rows->ceiling[rows->semaphore[r]] >= tasks->priority[i]
-            && rows->length[r] > longest)
-            longest = rows->length[r];
-    return longest;
-}
 
 #ifdef MARKS
 
@@ -124,33 +114,7 @@ static uint32_t respond(const struct tasks *tasks, size_t i, size_t end, uint32_
 
 #else
 
-/* n / d rounded up, for n of at least 1. */
-static uint32_t divide_up(uint32_t n, uint32_t d)
-{
-#ifdef SKIP_DIVIDE
-    if (n <= d)
-        return 1;
-#endif
-    return (n - 1) / d + 1;
-}
-
-/* Adds what the tasks from place j on, up to the end, ask for in a window of at least 1 tick. */
-static uint64_t add_loads(uint64_t sum, const struct tasks *tasks, size_t j, size_t end,
-                          uint32_t window)
-{
-    for (; j < end; j++)
-        sum += (uint64_t)divide_up(window + tasks->spread[j], tasks->T[j]) * tasks->C[j];
-    return sum;
-}
-
-/* The demand of task i; base is C + B. */
-static uint64_t demand(const struct tasks *tasks, size_t i, size_t end, uint32_t base,
-                       uint32_t window)
-{
-    uint64_t sum = add_loads(base, tasks, 0, i, window);
-
-    return add_loads(sum, tasks, i + 1, end, window);
-}
+#include "plain_demand.h"
 
 /* The answer of task i, and its rounds from that start. */
 static uint32_t respond(const struct tasks *tasks, size_t i, size_t end, uint32_t base,

@@ -1,5 +1,5 @@
-/* plain.h: the analysis of document 01 and the engine of document 02, L1, in plain C, to test and
- * to measure against. Both read tables of versions 1 and 2. */
+/* plain.h: the analysis of document 01, the engine of document 02, L1, and the checker of claims of
+ * its L7 in plain C, to test and to measure against. All read tables of versions 1 and 2. */
 #ifndef PLAIN_H
 #define PLAIN_H
 
@@ -22,5 +22,10 @@ uint64_t plain_analyse_from_own_cost(const uint8_t *table, size_t table_len,
  * priorities with that (document 02, L6). */
 uint64_t plain_play(const uint8_t *table, size_t table_len,
                     uint32_t *answers, size_t answers_len);
+
+/* The checker of claims; the answer is packed in the same way: code 0 is pass, 1 to 7 and 10 refused
+ * with that number, 255 fails, with the first place that does. */
+uint64_t plain_check_claims(const uint8_t *table, size_t table_len,
+                            const uint32_t *claims, size_t claims_len);
 
 #endif

@@ -1,5 +1,5 @@
 /* plain_table.h: reading a table in plain C, decoded once into arrays. It is compiled into each of
- * plain.c, plain_own_cost.c and plain_play.c, as if each stood alone. */
+ * plain.c, plain_own_cost.c, plain_play.c and plain_claims.c, as if each stood alone. */
 #ifndef PLAIN_TABLE_H
 #define PLAIN_TABLE_H
 
