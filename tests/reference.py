@@ -2492,9 +2492,19 @@ def edge_claims(task):
             GREATEST_WORD]
 
 
+def mistaken_claims(tasks, rows):
+    """The answers of somebody who forgets that delays vary, that there are any, the sections, or
+    that equal tasks wait for each other."""
+    falling = with_priorities(tasks, range(len(tasks), 0, -1))
+    ties = falling if has_ties(tasks) else tasks
+    constant = [task._replace(earliest=task.latest) for task in tasks]
+    for mistaken in ((constant, rows), (without_delays(tasks), rows), (tasks, []), (ties, rows)):
+        if mistaken != (tasks, rows):
+            yield sound_claims(tasks, responses_of(*mistaken))
+
+
 def near_claims(responses):
-    """The true answers; a tick more and a tick less, for all tasks and for one."""
-    yield responses
+    """A tick more than the true answers and a tick less, for all tasks and for one."""
     for by in (1, -1):
         near = moved_claims(responses, by)
         yield near
@@ -2533,26 +2543,23 @@ def miscounted_claims(claims):
     return [claims[:-1], claims + claims[-1:], []]
 
 
-def claim_lists(generator, tasks, rows):
-    responses = responses_of(tasks, rows)
+def other_claims(generator, tasks, rows, responses):
     sound = sound_claims(tasks, responses)
-    lists = itertools.chain(near_claims(responses), claims_at_edges(tasks, sound),
-                            drawn_claims(generator, tasks, rows, sound), miscounted_claims(sound))
-    # Each list once.
-    return [list(claims) for claims in dict.fromkeys(map(tuple, lists))]
+    yield from near_claims(responses)
+    yield from claims_at_edges(tasks, sound)
+    yield from drawn_claims(generator, tasks, rows, sound)
+    yield from miscounted_claims(sound)
 
 
-def all_lists(generator, data):
-    for claims in claim_lists(generator, *read_bytes(data)):
-        yield Claimed(data, claims)
-
-
-def some_lists(generator, data, how_many):
-    """The true answers, and so many of the others."""
-    lists = claim_lists(generator, *read_bytes(data))
-    chosen = sorted(generator.sample(range(1, len(lists)), min(how_many, len(lists) - 1)))
-    for number in [0] + chosen:
-        yield Claimed(data, lists[number])
+def claim_lists(generator, data, how_many=None):
+    """The true answers, those with a mistake, and so many of the others, or all; each list once."""
+    tasks, rows = read_bytes(data)
+    responses = responses_of(tasks, rows)
+    lists = [responses] + list(mistaken_claims(tasks, rows))
+    others = list(other_claims(generator, tasks, rows, responses))
+    lists += others if how_many is None else generator.sample(others, how_many)
+    for claims in dict.fromkeys(map(tuple, lists)):
+        yield Claimed(data, list(claims))
 
 
 def printed_tables():
@@ -2565,21 +2572,29 @@ def printed_tables():
         yield entry.table
 
 
-def schedulable_table(generator, make, version):
+def needs_spread(tasks, rows):
+    """Schedulable, and with other answers if every delay were constant."""
+    constant = [task._replace(earliest=task.latest) for task in tasks]
+    responses = responses_of(tasks, rows)
+    return all(responses) and responses != responses_of(constant, rows)
+
+
+def chosen_data(generator, make, version, fits):
     while True:
         tasks, rows = make(generator, version)
-        if len(tasks) > 1 and is_schedulable(tasks, rows):
-            return tasks, rows
+        if fits(tasks, rows):
+            return Draft(tasks, rows, version).data()
 
 
 def made_claim_tables(generator):
-    """Small tables, without ties and with them, every second one schedulable for certain; deadlines
-    about the answers; numbers at their limits; more work than ticks."""
+    """Small tables, without ties and with them: any, schedulable ones, and such as need their
+    spreads; deadlines about the answers; numbers at their limits; more work than ticks."""
     for version in LAYOUTS:
         for make in (any_small_table, any_tied_table):
-            for _ in range(16):
-                yield Draft(*schedulable_table(generator, make, version), version).data()
+            for _ in range(11):
                 yield Draft(*make(generator, version), version).data()
+                for fits in (is_schedulable, needs_spread):
+                    yield chosen_data(generator, make, version, fits)
             for entry in deadline_entries(generator, 10, version, make):
                 yield entry.table
         for entry in limit_entries(generator, 12, version):
@@ -2614,7 +2629,7 @@ def greatest_claims(generator):
     """The largest sums, and such as pass 2^32: a claim of the cost alone would then pass."""
     for data in itertools.chain(greatest_tables(), wrapping_tables(), greatest_group_tables()):
         few = data[TASK_COUNT_BYTE] < MOST_TASKS
-        yield from all_lists(generator, data) if few else some_lists(generator, data, 3)
+        yield from claim_lists(generator, data, None if few else 3)
 
 
 def edges_claimed(generator):
@@ -2636,11 +2651,11 @@ def all_claims():
     for table, claims, _ in CLAIM_EXAMPLES:
         yield Claimed(Draft(table.tasks, table.rows).data(), claims)
     for data in printed_tables():
-        yield from all_lists(generator, data)
+        yield from claim_lists(generator, data)
     for data in made_claim_tables(generator):
-        yield from some_lists(generator, data, 9)
+        yield from claim_lists(generator, data, 8)
     for data in wide_claim_tables(generator):
-        yield from some_lists(generator, data, 14)
+        yield from claim_lists(generator, data, 14)
     yield from greatest_claims(generator)
     yield from refused_claims(generator)
     yield from edges_claimed(generator)
