@@ -6,10 +6,13 @@
  * deadline. It covers one processor, fixed priorities where a more urgent task takes the processor
  * at once and several tasks may share a priority, whole ticks, and sporadic tasks: their jobs come
  * at least a period apart. The engine comes to the same answers, for the tables that it takes, by
- * playing the worst case tick by tick. docs/SPECIFICATION.md has all the rules and terms.
+ * playing the worst case tick by tick. The checker of claims is given response times that somebody
+ * claims, and says whether they hold. docs/SPECIFICATION.md has all the rules and terms.
  *
- * ulmerascio_analyse is in libfirmware.a, ulmerascio_analyse_from_own_cost in libmarking.a and
- * ulmerascio_play in libplayer.a; none of them needs another, and a program may link them all.
+ * ulmerascio_analyse is in libfirmware.a, ulmerascio_analyse_from_own_cost in libmarking.a,
+ * ulmerascio_play in libplayer.a and ulmerascio_check_claims in libclaims.a, each made by
+ * "rt staticlib" and the library's name; none of them needs another, and a program may link them
+ * all.
  */
 #ifndef ULMERASCIO_H
 #define ULMERASCIO_H
@@ -50,9 +53,11 @@ enum ulmerascio_refusal_number {
                                       * above the latest */
     ULMERASCIO_REFUSED_PRIORITY = 6, /* priority 0, or above that of the record before */
     ULMERASCIO_REFUSED_ROW = 7,      /* a section row breaks a rule */
-    ULMERASCIO_REFUSED_SLICES = 8,   /* a slice has fewer than n words */
-    ULMERASCIO_REFUSED_NOT_PLAYABLE = 9 /* given by ulmerascio_play alone: some jitter or delay is
+    ULMERASCIO_REFUSED_SLICES = 8,   /* a slice for answers or rounds has fewer than n words */
+    ULMERASCIO_REFUSED_NOT_PLAYABLE = 9, /* given by ulmerascio_play alone: some jitter or delay is
                                       * not 0, there is a row, or two tasks have one priority */
+    ULMERASCIO_REFUSED_CLAIMS = 10   /* given by ulmerascio_check_claims alone: there are fewer or
+                                      * more claims than n */
 };
 
 /* Where it was refused. The place of refusals 3, 5, 6 and 7 is the offset, from the table's first
@@ -68,7 +73,7 @@ enum ulmerascio_refusal_number {
  *     6             t, where the priority stands; it is tested after the numbers of its record
  *     7             r for the task's place, r + 1 for the semaphore, r + 2 for the length, tested
  *                   in this order; then r if the row does not rise above the one before
- *     8, 9          0
+ *     8, 9, 10      0
  */
 
 /* Analyses the table of table_len bytes at table.
@@ -142,32 +147,79 @@ uint64_t ulmerascio_analyse_from_own_cost(const uint8_t *table, size_t table_len
 uint64_t ulmerascio_play(const uint8_t *table, size_t table_len,
                          uint32_t *answers, size_t answers_len);
 
-/* 1 if every task meets its deadline, else 0. */
+/* Checks claims for the table of table_len bytes at table. A claim is a response time in ticks that
+ * somebody says a task of the table has: word i of claims is the claim for task i, counted from 0.
+ *
+ * Each claim is looked at once. From claim r the task's latest delay (J in version 1) is taken off,
+ * which leaves w ticks. The claim passes if
+ *
+ *     w is at least 1;
+ *     r is at most the deadline D; and
+ *     the work that may come in w ticks is at most w: the task's cost and blocking, and for every
+ *     other task that is at least as urgent its cost times (w + s) / T rounded up, where T is that
+ *     task's period and s its latest delay minus its earliest.
+ *
+ * If every claim passes, the table is schedulable, and no task's longest response time, which is
+ * the answer that ulmerascio_analyse gives, is above its claim. The answers of a schedulable table
+ * always pass. A claim above the answer may fail, also where it is within the deadline: in a few
+ * ticks more, more work may come than there is time for. So a claim that fails does not mean that
+ * its task is late, but that this claim does not show it to be in time. No claim passes for a task
+ * whose answer is 0.
+ *
+ * Refusals 1 to 7 and their places are as above; there is no 8, since nothing is written. Then a
+ * list with fewer or more claims than the table has tasks is refused with 10. What is returned is
+ * packed as above:
+ *
+ *     code 0               every claim passes; the place is 0
+ *     code 1 to 7, or 10   refused, with that number and at that place of the lists above
+ *     code 255             a claim fails; the place is the number of the first task whose claim
+ *                          does, from 0
+ *
+ * claims_len is counted in words. table must be good for reading table_len bytes, claims for
+ * reading claims_len words, and claims must be aligned for a word. Neither may be null, even where
+ * its length is 0.
+ */
+uint64_t ulmerascio_check_claims(const uint8_t *table, size_t table_len,
+                                 const uint32_t *claims, size_t claims_len);
+
+/* Of what the analysis and the engine return: 1 if every task meets its deadline, else 0. */
 static inline int ulmerascio_is_schedulable(uint64_t verdict)
 {
     return verdict >> 32 == 0;
 }
 
-/* 1 if some task is not shown to meet its deadline, else 0. */
+/* Of the same: 1 if some task is not shown to meet its deadline, else 0. */
 static inline int ulmerascio_is_late(uint64_t verdict)
 {
     return verdict >> 32 == 255;
 }
 
-/* 1 if the table was refused, else 0. */
-static inline int ulmerascio_is_refused(uint64_t verdict)
+/* Of what the checker of claims returns: 1 if every claim passes, else 0. */
+static inline int ulmerascio_is_pass(uint64_t verdict)
 {
-    return verdict >> 32 >= 1 && verdict >> 32 <= 9;
+    return verdict >> 32 == 0;
 }
 
-/* The number of the refusal, 1 to 9, or 0 if the table was not refused. */
+/* Of the same: 1 if some claim fails, else 0. */
+static inline int ulmerascio_is_fail(uint64_t verdict)
+{
+    return verdict >> 32 == 255;
+}
+
+/* 1 if the table or the list of claims was refused, else 0. */
+static inline int ulmerascio_is_refused(uint64_t verdict)
+{
+    return verdict >> 32 >= 1 && verdict >> 32 <= 10;
+}
+
+/* The number of the refusal, 1 to 10, or 0 if nothing was refused. */
 static inline int ulmerascio_refusal(uint64_t verdict)
 {
     return ulmerascio_is_refused(verdict) ? (int)(verdict >> 32) : 0;
 }
 
-/* The place of a refusal, as listed above, or the number of the first late task, counted from 0;
- * 0 if the table is schedulable. */
+/* The place of a refusal, as listed above, or the number of the first late task, or of the first
+ * whose claim fails, counted from 0; 0 if the table is schedulable or every claim passes. */
 static inline uint32_t ulmerascio_place(uint64_t verdict)
 {
     return (uint32_t)(verdict & 0xFFFFFFFFu);

@@ -1,8 +1,9 @@
-/* test_firmware TABLES: calls the library through its C header and compares it, word by word,
- * with the plain C analysis and the plain C engine (bench/plain.c) on every entry of a file that
- * "tests/reference.py make" wrote, the analysis from both starts; and the engine with the analysis.
- * The places of refusals and some rounds are also compared with what was worked out by hand, and so
- * are tables in which tasks share a priority. */
+/* test_firmware TABLES CLAIMS: calls the library through its C header and compares it, word by
+ * word, with the plain C analysis, the plain C engine and the plain C checker of claims
+ * (bench/plain.h) on every entry of two files that "tests/reference.py make" wrote, the analysis
+ * from both starts; and the engine and the checker with the analysis. The places of refusals and
+ * some rounds are also compared with what was worked out by hand, and so are tables in which tasks
+ * share a priority, and some claims. */
 #include <stdio.h>
 #include <stdlib.h>
 #include <string.h>
@@ -14,6 +15,9 @@ enum {
     LONGEST_SLICE = 40,
     GUARD = 8,           /* words on both sides of a slice, which must stay */
     ENTRY_HEADER = 4,    /* table length (2), answers length (1), rounds length (1) */
+    CLAIMS_HEADER = 3,   /* table length (2), number of claims (1) */
+    MOST_CLAIMS = 255,
+    FEWEST_LISTS = 1000, /* the file with claims has more */
     WORKED_TABLES = 15,  /* the file begins with document 01's worked tables */
     FIFTH_TABLE = 4,
     LATE_TABLE = 10,
@@ -47,7 +51,7 @@ struct outcome {
     uint32_t rounds[GUARD + LONGEST_SLICE + GUARD];
 };
 
-static unsigned long calls, plays, taken;
+static unsigned long calls, plays, taken, lists, passed;
 
 static void call(analysis *analyse, struct table table, size_t answers_len, size_t rounds_len,
                  struct outcome *outcome)
@@ -84,20 +88,22 @@ static void check_stayed(const char *slice, const uint32_t *words, size_t writte
 static int helpers_agree(uint64_t verdict)
 {
     uint64_t code = verdict / 4294967296u, place = verdict % 4294967296u;
-    int refused = code >= 1 && code <= 9;
+    int refused = code >= 1 && code <= 10;
 
     return ulmerascio_is_schedulable(verdict) == (code == 0)
         && ulmerascio_is_late(verdict) == (code == 255)
+        && ulmerascio_is_pass(verdict) == (code == 0)
+        && ulmerascio_is_fail(verdict) == (code == 255)
         && ulmerascio_is_refused(verdict) == refused
         && ulmerascio_refusal(verdict) == (refused ? (int)code : 0)
         && ulmerascio_place(verdict) == place
         && (code == 0 || code == 255 || refused);
 }
 
-/* Can the place be that of such a verdict? A late task has a number. Refusals 3, 5, 6 and 7 point
- * at the first byte of a field (document 02, L3): n or m; T, C, D or J, at 1, 5, 9 or 13 in a
- * record, and in version 2 (L4) a delay at 13 or 17; the priority, at 0 in it; one of the three at
- * 0, 1 and 2 in a row. */
+/* Can the place be that of such a verdict? A late task, or one whose claim fails, has a number.
+ * Refusals 3, 5, 6 and 7 point at the first byte of a field (document 02, L3): n or m; T, C, D or
+ * J, at 1, 5, 9 or 13 in a record, and in version 2 (L4) a delay at 13 or 17; the priority, at 0 in
+ * it; one of the three at 0, 1 and 2 in a row. */
 static int place_fits(struct table table, uint64_t verdict)
 {
     size_t place = ulmerascio_place(verdict), n = table.length > 3 ? table.bytes[3] : 0;
@@ -238,6 +244,145 @@ static void compare_play(const char *what, size_t number, struct table table, si
         compare_slice("answers", ours.answers, analysed.answers);
         exit(1);
     }
+}
+
+/* A list of claims for a table, in words that must stay. */
+struct claims {
+    uint32_t *words;
+    size_t count;
+};
+
+/* What document 02's L7 says of a list, said without the plain checker. Refusals 1 to 7 are those
+ * of the analysis with slices that have room, and come before 10. Each claim that passes is no less
+ * than an answer that is not 0; and no such answer fails as a claim. */
+static int claims_fit(uint64_t checked, struct claims claims, size_t n,
+                      const struct outcome *analysed)
+{
+    const uint32_t *answers = analysed->answers + GUARD;
+    size_t place = ulmerascio_place(checked), passing = ulmerascio_is_pass(checked) ? n : place;
+
+    if (ulmerascio_is_refused(analysed->verdict))
+        return checked == analysed->verdict;
+    if (claims.count != n)
+        return checked == (uint64_t)ULMERASCIO_REFUSED_CLAIMS << 32;
+    if (ulmerascio_is_refused(checked))
+        return 0;
+    for (size_t i = 0; i < passing; i++)
+        if (answers[i] == 0 || answers[i] > claims.words[i])
+            return 0;
+    if (ulmerascio_is_pass(checked))
+        return ulmerascio_is_schedulable(analysed->verdict);
+    return answers[place] == 0 || answers[place] != claims.words[place];
+}
+
+static void fail_claims(const char *what, size_t number, struct claims claims, uint64_t ours,
+                        const char *other, uint64_t wanted)
+{
+    printf("c: %s %lu, %lu claims: %llx, %s %llx\n", what, (unsigned long)number,
+           (unsigned long)claims.count, (unsigned long long)ours, other,
+           (unsigned long long)wanted);
+    for (size_t i = 0; i < claims.count && i < MOST_CLAIMS; i++)
+        printf("c: claim %lu is %lu\n", (unsigned long)i, (unsigned long)claims.words[i]);
+    exit(1);
+}
+
+/* Calls both checkers, and holds what they say to what our analysis said of the table. */
+static uint64_t compare_claims(const char *what, size_t number, struct table table,
+                               struct claims claims, const struct outcome *analysed)
+{
+    uint32_t before[MOST_CLAIMS];
+    size_t kept = claims.count < MOST_CLAIMS ? claims.count : MOST_CLAIMS;
+    uint64_t ours, plain;
+
+    memcpy(before, claims.words, kept * sizeof before[0]);
+    ours = ulmerascio_check_claims(table.bytes, table.length, claims.words, claims.count);
+    if (memcmp(before, claims.words, kept * sizeof before[0]))
+        fail_claims(what, number, claims, ours, "and claims changed by", ours);
+    plain = plain_check_claims(table.bytes, table.length, claims.words, claims.count);
+    if (ours != plain)
+        fail_claims(what, number, claims, ours, "plain", plain);
+    check_verdict(table, ours);
+    if (!claims_fit(ours, claims, table.length > 3 ? table.bytes[3] : 0, analysed))
+        fail_claims(what, number, claims, ours, "the analysis", analysed->verdict);
+    lists++;
+    passed += (unsigned long)ulmerascio_is_pass(ours);
+    return ours;
+}
+
+/* How a claim is made from the answer, which is 0 for a late task, and from the deadline. */
+enum kind { ANSWER, TICK_MORE, TICK_LESS, ZERO, DEADLINE, PAST_DEADLINE, GREATEST, KINDS };
+
+static uint32_t claim_of(enum kind kind, uint32_t answer, uint32_t deadline)
+{
+    switch (kind) {
+    case ANSWER:
+        return answer;
+    case TICK_MORE:
+        return answer + 1;
+    case TICK_LESS:
+        return answer ? answer - 1 : 0;
+    case ZERO:
+        return 0;
+    case DEADLINE:
+        return deadline;
+    case PAST_DEADLINE:
+        return deadline + 1;
+    default:
+        return UINT32_MAX;
+    }
+}
+
+static uint32_t deadline_at(struct table table, size_t i)
+{
+    const uint8_t *at = table.bytes + 5 + (table.bytes[0] == 2 ? 21 : 17) * i + 9;
+
+    return (uint32_t)at[0] << 24 | (uint32_t)at[1] << 16 | (uint32_t)at[2] << 8 | at[3];
+}
+
+/* Each kind for all n tasks; then for one task alone, where the others have their answers. */
+static void try_kinds(const char *what, size_t number, struct table table, size_t n,
+                      const struct outcome *analysed)
+{
+    const uint32_t *answers = analysed->answers + GUARD;
+    uint32_t words[LONGEST_SLICE];
+
+    for (enum kind kind = ANSWER; kind < KINDS; kind++) {
+        for (size_t i = 0; i < n; i++)
+            words[i] = claim_of(kind, answers[i], deadline_at(table, i));
+        compare_claims(what, number, table, (struct claims){words, n}, analysed);
+    }
+    for (size_t i = 0; i < n; i++)
+        words[i] = answers[i];
+    for (size_t i = 0; i < n; i++) {
+        for (enum kind kind = TICK_MORE; kind < KINDS; kind++) {
+            words[i] = claim_of(kind, answers[i], deadline_at(table, i));
+            compare_claims(what, number, table, (struct claims){words, n}, analysed);
+        }
+        words[i] = answers[i];
+    }
+}
+
+/* No claim, one too few, as many as tasks, one too many, and more. The words are the answers, or
+ * what stands there if the table is refused. */
+static void try_counts(const char *what, size_t number, struct table table, size_t n,
+                       struct outcome *analysed)
+{
+    size_t counts[] = {0, n ? n - 1 : 0, n, n + 1, LONGEST_SLICE};
+
+    for (size_t k = 0; k < sizeof counts / sizeof counts[0]; k++)
+        compare_claims(what, number, table, (struct claims){analysed->answers + GUARD, counts[k]},
+                       analysed);
+}
+
+static void try_claims(const char *what, size_t number, struct table table)
+{
+    size_t n = table.length > 3 ? table.bytes[3] : 0;
+    struct outcome analysed;
+
+    call(ulmerascio_analyse, table, LONGEST_SLICE, LONGEST_SLICE, &analysed);
+    try_counts(what, number, table, n < LONGEST_SLICE ? n : 0, &analysed);
+    if (!ulmerascio_is_refused(analysed.verdict))
+        try_kinds(what, number, table, n, &analysed);
 }
 
 static uint8_t *read_file(const char *name, size_t *length)
@@ -408,7 +553,8 @@ static uint8_t *copy_bytes(const uint8_t *bytes, size_t length, size_t room)
     return copy;
 }
 
-/* The analysis and the engine, ours and plain C's, are to give this verdict. */
+/* The analysis and the engine, ours and plain C's, are to give this verdict; and the checkers where
+ * the analysis refuses. */
 static void expect(const char *what, size_t number, struct table table, uint64_t wanted)
 {
     struct outcome outcome = compare(what, number, table, 32, 32);
@@ -416,6 +562,7 @@ static void expect(const char *what, size_t number, struct table table, uint64_t
 
     compare_play(what, number, table, 32);
     call_engine(ulmerascio_play, table, 32, &played);
+    try_claims(what, number, table);
     if (outcome.verdict != wanted || played.verdict != wanted) {
         printf("c: %s %lu: verdict %llx, played %llx, not %llx\n", what, (unsigned long)number,
                (unsigned long long)outcome.verdict, (unsigned long long)played.verdict,
@@ -467,6 +614,7 @@ static void try_delays(void)
         exit(1);
     }
     try_slice_lengths(0, table, &outcome);
+    try_claims("table with delays", 0, table);
     try_far_too_long(0, table);
     try_places("fault of delays", (struct table){delays_and_rows, sizeof delays_and_rows},
                delay_faults, sizeof delay_faults / sizeof delay_faults[0]);
@@ -562,6 +710,7 @@ static void try_grouped(size_t number, const struct grouped *grouped, uint8_t ve
     expect_played(what, number, table, n, (uint64_t)9 << 32);
     expect_played(what, number, table, n - 1, (uint64_t)8 << 32);
     try_slice_lengths(number, table, &outcome);
+    try_claims(what, number, table);
 }
 
 /* 32 tasks, of which one has the priority of the one before: the analysis takes them, the engine
@@ -584,6 +733,7 @@ static void try_neighbours(size_t place, uint8_t version)
     }
     expect_played("task with the priority before", place, table, 32, (uint64_t)9 << 32);
     expect_played("task with the priority before", place, table, 31, (uint64_t)8 << 32);
+    try_claims("task with the priority before", place, table);
     bytes[at] = (uint8_t)(tasks[place - 1].priority + 1);
     expect("task with a risen priority", place, table, ((uint64_t)6 << 32) + at);
     bytes[at] = 0;
@@ -598,6 +748,114 @@ static void try_groups(void)
         for (size_t place = 1; place < 32; place++)
             try_neighbours(place, version);
     }
+}
+
+/* Claims for two tasks without delays, and what they get, worked out by hand. */
+struct claimed {
+    struct task tasks[2];
+    uint32_t claims[3];
+    size_t count;
+    uint64_t wanted;
+};
+
+/* The demand of the second task is 2, and 2 for each job of the first. */
+#define STEPPED {{2, 4, 2, 4}, {1, 10, 2, 10}}
+/* The first may have to wait for the second too. */
+#define EQUAL {{1, 4, 2, 4}, {1, 10, 2, 10}}
+
+static const struct claimed claimed_tables[] = {
+    {STEPPED, {2, 4}, 2, 0},
+    {STEPPED, {2, 5}, 2, ((uint64_t)255 << 32) + 1}, /* at 5 a second job counts */
+    {STEPPED, {2, 6}, 2, 0},
+    {STEPPED, {4, 10}, 2, 0},
+    {STEPPED, {2, 3}, 2, ((uint64_t)255 << 32) + 1},
+    {STEPPED, {2, 11}, 2, ((uint64_t)255 << 32) + 1},
+    {STEPPED, {1, 5}, 2, (uint64_t)255 << 32},
+    {STEPPED, {5, 4}, 2, (uint64_t)255 << 32},
+    {STEPPED, {2}, 1, (uint64_t)10 << 32},
+    {STEPPED, {2, 4, 4}, 3, (uint64_t)10 << 32},
+    {STEPPED, {0}, 0, (uint64_t)10 << 32},
+    {EQUAL, {4, 4}, 2, 0},
+    {EQUAL, {2, 4}, 2, (uint64_t)255 << 32},
+    {EQUAL, {4, 5}, 2, ((uint64_t)255 << 32) + 1},
+};
+
+static void expect_claims(const char *what, size_t number, struct table table,
+                          struct claims claims, uint64_t wanted)
+{
+    struct outcome analysed;
+    uint64_t ours;
+
+    call(ulmerascio_analyse, table, LONGEST_SLICE, LONGEST_SLICE, &analysed);
+    ours = compare_claims(what, number, table, claims, &analysed);
+    if (ours != wanted)
+        fail_claims(what, number, claims, ours, "not", wanted);
+}
+
+static void try_claimed(size_t number, const struct claimed *claimed, uint8_t version)
+{
+    static const char what[] = "claims by hand";
+    uint8_t bytes[5 + 2 * 21];
+    struct table table = {bytes, write_table(bytes, version, claimed->tasks, 2)};
+    struct claims claims = {calloc(claimed->count + 65536, sizeof(uint32_t)), claimed->count};
+
+    if (!claims.words) {
+        perror("memory");
+        exit(1);
+    }
+    memcpy(claims.words, claimed->claims, claimed->count * sizeof claims.words[0]);
+    expect_claims(what, number, table, claims, claimed->wanted);
+    /* A number of claims that a byte or a 16-bit word cuts to the right one is still wrong. */
+    claims.count = claimed->count + 256;
+    expect_claims(what, number, table, claims, (uint64_t)10 << 32);
+    claims.count = claimed->count + 65536;
+    expect_claims(what, number, table, claims, (uint64_t)10 << 32);
+    free(claims.words);
+}
+
+static void try_claims_by_hand(void)
+{
+    for (uint8_t version = 1; version <= 2; version++)
+        for (size_t i = 0; i < sizeof claimed_tables / sizeof claimed_tables[0]; i++)
+            try_claimed(i, &claimed_tables[i], version);
+}
+
+/* One entry of the file with claims; gives the byte behind it. */
+static const uint8_t *try_claims_entry(size_t number, const uint8_t *at, const uint8_t *end)
+{
+    uint32_t words[MOST_CLAIMS];
+    struct claims claims = {words, 0};
+    struct outcome analysed;
+    struct table table = {at + CLAIMS_HEADER, 0};
+
+    if (end - at >= CLAIMS_HEADER) {
+        table.length = (size_t)at[0] << 8 | at[1];
+        claims.count = at[2];
+    }
+    if ((size_t)(end - at) < CLAIMS_HEADER + table.length + 4 * claims.count) {
+        printf("c: claims %lu are cut short\n", (unsigned long)number);
+        exit(1);
+    }
+    at = table.bytes + table.length;
+    for (size_t i = 0; i < claims.count; i++, at += 4)
+        words[i] = (uint32_t)at[0] << 24 | (uint32_t)at[1] << 16 | (uint32_t)at[2] << 8 | at[3];
+    call(ulmerascio_analyse, table, LONGEST_SLICE, LONGEST_SLICE, &analysed);
+    compare_claims("claims", number, table, claims, &analysed);
+    return at;
+}
+
+static void try_claims_file(const char *name)
+{
+    size_t length, number = 0;
+    uint8_t *data = read_file(name, &length);
+
+    for (const uint8_t *at = data; at < data + length; number++)
+        at = try_claims_entry(number, at, data + length);
+    if (number <= FEWEST_LISTS) {
+        printf("c: only %lu lists of claims\n", (unsigned long)number);
+        exit(1);
+    }
+    free(data);
 }
 
 /* Version 2 with 32 tasks and 64 rows, in room for one byte more, which is 0. */
@@ -644,6 +902,7 @@ static void try_longest(void)
         bytes[i] = old ^ 0xFF;
         compare("longest table with another byte", i, table, 32, 32);
         compare_play("longest table with another byte", i, table, 32);
+        try_claims("longest table with another byte", i, table);
         bytes[i] = old;
     }
     free(bytes);
@@ -660,6 +919,7 @@ static void try_group_sizes(void)
             bytes[5 + 21 * i] = (uint8_t)(32 - i / size);
         compare("longest table in groups", size, table, 32, 32);
         compare_play("longest table in groups", size, table, 32);
+        try_claims("longest table in groups", size, table);
     }
     free(bytes);
 }
@@ -669,8 +929,8 @@ int main(int count, char **words)
     size_t length, at = 0, number = 0;
     uint8_t *data;
 
-    if (count != 2) {
-        fprintf(stderr, "usage: test_firmware TABLES\n");
+    if (count != 3) {
+        fprintf(stderr, "usage: test_firmware TABLES CLAIMS\n");
         return 1;
     }
     data = read_file(words[1], &length);
@@ -696,6 +956,7 @@ int main(int count, char **words)
         at += table.length;
         outcome = compare("entry", number, table, answers_len, rounds_len);
         compare_play("entry", number, table, answers_len);
+        try_claims("entry", number, table);
         if (number < WORKED_TABLES) {
             try_slice_lengths(number, table, &outcome);
             try_rounds(number, table);
@@ -714,6 +975,9 @@ int main(int count, char **words)
     try_groups();
     try_longest();
     try_group_sizes();
-    printf("c: %lu calls agree; %lu plays, %lu of them not refused\n", calls, plays, taken);
+    try_claims_by_hand();
+    try_claims_file(words[2]);
+    printf("c: %lu calls agree; %lu plays, %lu of them not refused; %lu lists of claims, %lu of "
+           "them pass\n", calls, plays, taken, lists, passed);
     return 0;
 }
