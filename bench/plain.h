@@ -23,8 +23,8 @@ uint64_t plain_analyse_from_own_cost(const uint8_t *table, size_t table_len,
 uint64_t plain_play(const uint8_t *table, size_t table_len,
                     uint32_t *answers, size_t answers_len);
 
-/* The checker of claims; the answer is packed in the same way: code 0 is pass, 1 to 7 and 10 refused
- * with that number, 255 fails, with the first place that does. */
+/* The checker of claims; the answer is packed in the same way: code 0 is pass, 1 to 7 and 10
+ * refused with that number, 255 fails, with the first place that does. */
 uint64_t plain_check_claims(const uint8_t *table, size_t table_len,
                             const uint32_t *claims, size_t claims_len);
 
