@@ -4,7 +4,7 @@ use Prim.Native.Nat.{ℕ, zero, suc, _+_, _-_, _*_, _≤_, _<_}
 use native.Mathlib.Omega.{arith}
 use native.Mathlib.Numerals.{unary-clauses}
 use native.Mathlib.Nat.{mul-le-mul, mul-le-mul-left, mul-one, le-refl}
-use mathlib.Core.Path.{_≡_, refl, sym, _∙_, ap}
+use mathlib.Core.Path.{_≡_, sym, _∙_, ap}
 use mathlib.Core.List.{List}
 use Rattle.model.specs.Lists.{total, sumOf}
 use Rattle.model.specs.Tables.{Load, isOther}
@@ -24,9 +24,9 @@ share-high w l f h =
     mul-le-mul {n₁ = l .cost} {m₁ = ceilDiv (w + l .spread) (l .period)} {n₂ = 1000000} {m₂ = 1001000000} (f .costHigh) q
 
 -- beside its cost a load asks for as many costs as periods begin behind the first
-module _ (period cost spread w : ℕ) (f : LoadFits (load period cost spread)) (low : 1 ≤ w) where
+module _ (period cost spread w sum : ℕ) (f : LoadFits (load period cost spread)) (low : 1 ≤ w) where
   -- where one period covers the ticks, for nothing
-  pub more-none : w + spread ≤ period → 0 ≡ more w (load period cost spread)
+  pub more-none : w + spread ≤ period → sum ≡ sum + more w (load period cost spread)
   more-none h =
       let one : ceilDiv (w + spread) period ≡ 1 =
       omega (arith, positive (w + spread) period (f .periodLow) (omega arith), least (w + spread) period 1 (f .periodLow) (omega arith)) in
@@ -36,15 +36,18 @@ module _ (period cost spread w : ℕ) (f : LoadFits (load period cost spread)) (
     pub begun-low : 1 ≤ begun
     begun-low = omega (arith, is, positive (w + spread) period (f .periodLow) (omega arith))
 
-    pub more-is : cost * (begun - 1) ≡ more w (load period cost spread)
-    more-is = rw (sym is) (one-less cost begun)
+    same-more : cost * (begun - 1) ≡ more w (load period cost spread)
+    same-more = rw (sym is) (one-less cost begun)
       where
         one-less : (c b : ℕ) → c * (b - 1) ≡ c * b - c
         one-less c zero = simp unary-clauses (omega arith)
         one-less c (suc b) = simp unary-clauses (omega arith)
 
+    pub more-is : sum + cost * (begun - 1) ≡ sum + more w (load period cost spread)
+    more-is = omega (arith, same-more)
+
     pub more-fits : w ≤ 1000000000 → cost * (begun - 1) ≤ 1001000000000000
-    more-fits h = rw more-is (omega (arith, share-high w (load period cost spread) f h))
+    more-fits h = omega (arith, same-more, share-high w (load period cost spread) f h)
 
 -- one load after the other
 module _ (periods costs spreads : List ℕ) (to w : ℕ) (fit : LoadsFit periods costs spreads to) (high : w ≤ 1000000000) where
@@ -55,52 +58,59 @@ module _ (periods costs spreads : List ℕ) (to w : ℕ) (fit : LoadsFit periods
   total-fits : total (moreAt periods costs spreads w) to ≤ 200200000000000000
   total-fits = omega (arith, total-high (moreAt periods costs spreads w) to 1001000000000000 more-high, fit .few)
 
-  pub part-fits : (from end part : ℕ) → part ≡ total (moreAt periods costs spreads w) end - total (moreAt periods costs spreads w) from → end ≤ to →
-      part ≤ 200200000000000000
-  part-fits from end part is h = omega (arith, is, total-longer (moreAt periods costs spreads w) end to h, total-fits)
+  pub part-fits : (first end part : ℕ) → first ≤ 100000000000 → part ≡ first + (total (moreAt periods costs spreads w) end - total (moreAt periods costs spreads w) 0) →
+      end ≤ to → part ≤ 1000000000000000000
+  part-fits first end part small is h = omega (arith, is, total-longer (moreAt periods costs spreads w) end to h, total-fits)
 
--- what is known once the loads of the places from `from` on and before k are summed
-pub record Summing (periods costs spreads : List ℕ) (from to w k sum : ℕ) : Type 0 where
+-- what is known once the loads of the places from `from` on and before k are added to a sum
+pub record Summing (periods costs spreads : List ℕ) (first from to w k sum : ℕ) : Type 0 where
   pub fit : LoadsFit periods costs spreads to
   pub low : 1 ≤ w
   pub high : w ≤ 1000000000
+  pub firstHigh : first ≤ 1000000000000000000
   pub begun : from ≤ k
   pub within : k ≤ to
-  pub sums : sum + total (moreAt periods costs spreads w) from ≡ total (moreAt periods costs spreads w) k
+  pub sums : sum + total (moreAt periods costs spreads w) from ≡ first + total (moreAt periods costs spreads w) k
 
-module _ (periods costs spreads : List ℕ) (from to w : ℕ) where
-  pub summing-none : LoadsFit periods costs spreads to → 1 ≤ w → w ≤ 1000000000 → from ≤ to → Summing periods costs spreads from to w from 0
-  summing-none f low high h =
-      record { fit = f; low = low; high = high; begun = le-refl from; within = h; sums = omega arith }
+module _ (periods costs spreads : List ℕ) (first from to w : ℕ) where
+  pub summing-none : LoadsFit periods costs spreads to → 1 ≤ w → w ≤ 1000000000 → first ≤ 1000000000000000000 → from ≤ to →
+      Summing periods costs spreads first from to w from first
+  summing-none f low high firstHigh h =
+      record { fit = f; low = low; high = high; firstHigh = firstHigh; begun = le-refl from; within = h; sums = omega arith }
 
-  module _ (k sum one : ℕ) (s : Summing periods costs spreads from to w k sum) (h : k < to) (is : one ≡ moreAt periods costs spreads w k) where
-    pub summing-fits : sum + one ≤ 200200000000000000
-    summing-fits =
+  module _ (k sum next : ℕ) (s : Summing periods costs spreads first from to w k sum) where
+    pub sum-high : k < to → sum ≤ 10000000000000000000
+    sum-high h =
         omega (
           arith,
-          is,
           s .sums,
-          total-more (moreAt periods costs spreads w) k,
-          total-longer (moreAt periods costs spreads w) (k + 1) to (omega arith),
+          s .firstHigh,
+          total-longer (moreAt periods costs spreads w) k to (omega arith),
           total-fits periods costs spreads to w (s .fit) (s .high),
         )
 
-    pub summing-more : Summing periods costs spreads from to w (k + 1) (sum + one)
-    summing-more =
+    pub summing-more : k < to → next ≡ sum + moreAt periods costs spreads w k → Summing periods costs spreads first from to w (k + 1) next
+    summing-more h is =
         record {
           fit = s .fit;
           low = s .low;
           high = s .high;
+          firstHigh = s .firstHigh;
           begun = omega (arith, s .begun);
           within = omega arith;
           sums = omega (arith, is, s .sums, total-more (moreAt periods costs spreads w) k);
         }
 
-  pub summed-all : (k sum : ℕ) → Summing periods costs spreads from to w k sum → to ≤ k →
-      sum ≡ total (moreAt periods costs spreads w) to - total (moreAt periods costs spreads w) from
+  pub summed-all : (k sum : ℕ) → Summing periods costs spreads first from to w k sum → to ≤ k →
+      sum ≡ first + (total (moreAt periods costs spreads w) to - total (moreAt periods costs spreads w) from)
   summed-all k sum s h =
       let all : k ≡ to = omega (arith, s .within) in
-      omega (arith, s .sums, ap (total (moreAt periods costs spreads w)) all)
+      omega (
+        arith,
+        s .sums,
+        ap (total (moreAt periods costs spreads w)) all,
+        total-longer (moreAt periods costs spreads w) from k (s .begun),
+      )
 
 -- the slices hold fewer loads too
 pub loads-less : {periods costs spreads : List ℕ} {n k : ℕ} → LoadsFit periods costs spreads n → k ≤ n → LoadsFit periods costs spreads k
@@ -137,8 +147,8 @@ module _ {periods costs spreads : List ℕ} {count : ℕ} (fit : LoadsFit period
   all-parts : total shareOn count ≡ total moreOn count + total costOn count
   all-parts = total-same shareOn (λ k. moreOn k + costOn k) count share-parts ∙ total-add moreOn costOn count
 
-  pub demand-alone : count ≤ own → (all : ℕ) → all ≡ total moreOn count - total moreOn 0 →
-      base + others + all ≡ demand base (loads periods costs spreads own count) w
+  pub demand-alone : count ≤ own → (all : ℕ) → all ≡ base + others + (total moreOn count - total moreOn 0) →
+      all ≡ demand base (loads periods costs spreads own count) w
   unfolding demand
   demand-alone h all is =
       let same = gather-all (isOther own) loadOn count (λ k l. other-is own k (omega arith)) in
@@ -154,11 +164,10 @@ module _ {periods costs spreads : List ℕ} {count : ℕ} (fit : LoadsFit period
         all-parts,
       )
 
-  pub demand-around : own < count → (before behind : ℕ) → before ≡ total moreOn own - total moreOn 0 →
-      behind ≡ total moreOn count - total moreOn (own + 1) →
-      base + others + before + behind ≡ demand base (loads periods costs spreads own count) w
+  pub demand-around : own < count → (before all : ℕ) → before ≡ base + others + (total moreOn own - total moreOn 0) →
+      all ≡ before + (total moreOn count - total moreOn (own + 1)) → all ≡ demand base (loads periods costs spreads own count) w
   unfolding demand
-  demand-around h before behind first second =
+  demand-around h before all first second =
       omega (
         arith,
         first,

@@ -42,21 +42,22 @@ pub fn div_up(n: Ticks, d: Ticks) -> u32
     (n.0 - 1) / d.0 + 1
 }
 
-// What a load asks for in w ticks, at least one, beside the cost that it asks for in any: nothing where one period covers them. It does not fit
-// 32 bits.
-fn more_of(period: Ticks, cost: Ticks, spread: Ticks, w: Ticks) -> u64
-    requires { ⌜ LoadFits (load (period .0) (cost .0) (spread .0)) × (1 ≤ w .0) × (w .0 ≤ 1000000000) ⌝ }
-    ensures { λ r. ⌜ r ≡ more (w .0) (load (period .0) (cost .0) (spread .0)) ⌝ }
+// The sum with what a load asks for in w ticks, at least one, beside the cost that it asks for in any: nothing where one period covers them.
+// It does not fit 32 bits.
+fn with_load(sum: u64, period: Ticks, cost: Ticks, spread: Ticks, w: Ticks) -> u64
+    requires { ⌜ LoadFits (load (period .0) (cost .0) (spread .0)) × (1 ≤ w .0) × (w .0 ≤ 1000000000) × («sum» ≤ 10000000000000000000) ⌝ }
+    ensures { λ r. ⌜ r ≡ «sum» + more (w .0) (load (period .0) (cost .0) (spread .0)) ⌝ }
 {
     let window = Ticks(w.0 + spread.0);
     if window.0 <= period.0 {
-        return 0;
+        return sum;
     }
-    (cost.0 as u64) * ((div_up(window, period) - 1) as u64)
+    sum + (cost.0 as u64) * ((div_up(window, period) - 1) as u64)
 }
 
-// The same of the loads of some places, those from `from` on and before `to`.
-fn more_between(
+// The sum with what the loads of some places, those from `from` on and before `to`, ask for in w ticks, at least one, beside one cost each.
+fn with_more(
+    sum: u64,
     periods: &[u32],
     costs: &[u32],
     spreads: &[u32],
@@ -65,14 +66,20 @@ fn more_between(
     w: Ticks,
 ) -> u64
     requires { ⌜ LoadsFit (now periods) (now costs) (now spreads) to × (from ≤ to) ⌝ }
-    requires { ⌜ (1 ≤ w .0) × (w .0 ≤ 1000000000) ⌝ }
-    ensures { λ r. ⌜ r ≡ total (moreAt (now (periods .entry)) (now (costs .entry)) (now (spreads .entry)) (w .0)) to - total (moreAt (now (periods .entry)) (now (costs .entry)) (now (spreads .entry)) (w .0)) from ⌝ }
+    requires { ⌜ (1 ≤ w .0) × (w .0 ≤ 1000000000) × («sum» ≤ 1000000000000000000) ⌝ }
+    ensures { λ r. ⌜ r ≡ «sum» + (total (moreAt (now (periods .entry)) (now (costs .entry)) (now (spreads .entry)) (w .0)) to - total (moreAt (now (periods .entry)) (now (costs .entry)) (now (spreads .entry)) (w .0)) from) ⌝ }
 {
-    let mut sum: u64 = 0;
+    let mut all = sum;
     for k in from..to {
-        sum += more_of(Ticks(periods[k]), Ticks(costs[k]), Ticks(spreads[k]), w);
+        all = with_load(
+            all,
+            Ticks(periods[k]),
+            Ticks(costs[k]),
+            Ticks(spreads[k]),
+            w,
+        );
     }
-    sum
+    all
 }
 
 // What the task at place `own` and its loads ask for in w ticks, at least one: the loads are those of the first `count` places without its own,
@@ -93,9 +100,8 @@ pub fn demand(
 {
     let once = (base.0 as u64) + (others.0 as u64);
     if count <= own {
-        return once + more_between(periods, costs, spreads, 0, count, w);
+        return with_more(once, periods, costs, spreads, 0, count, w);
     }
-    let before = more_between(periods, costs, spreads, 0, own, w);
-    let behind = more_between(periods, costs, spreads, own + 1, count, w);
-    once + before + behind
+    let before = with_more(once, periods, costs, spreads, 0, own, w);
+    with_more(before, periods, costs, spreads, own + 1, count, w)
 }

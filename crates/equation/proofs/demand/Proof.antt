@@ -6,53 +6,41 @@ use borrow.Author.Needs.{needs}
 use Rattle.equation.proofs.demand.Statement.{statement}
 use Rattle.equation.proofs.demand.Tie as tie
 
--- src/lib.rt:94:17
+-- src/lib.rt:95:17
 cast-once : tie.Need-cast-once
 cast-once c = search needs
 
--- src/lib.rt:94:35
+-- src/lib.rt:95:35
 cast-once-2 : tie.Need-cast-once-2
 cast-once-2 c = search needs
 
--- src/lib.rt:94:16
+-- src/lib.rt:95:16
 add-once : tie.Need-add-once
 add-once c = search needs
 
--- src/lib.rt:96:23
-more-between-requires : tie.Need-more-between-requires
-more-between-requires c κs = search needs
+-- src/lib.rt:97:9
+with-more-requires : tie.Need-with-more-requires
+with-more-requires c κs = search needs
 
--- src/lib.rt:96:16
-add-result : tie.Need-add-result
-add-result c = omega (arith, part-fits _ _ _ _ _ (c .before .before .before .before .before .before .before .pre .0 .0) (c .before .before .before .before .before .before .before .pre .1 .1) _ _ _ (c .more-between .ensures) (omega arith))
-
--- src/lib.rt:96:9
+-- src/lib.rt:97:9
 returns : tie.Need-returns
-returns c = demand-alone (c .before .before .before .before .before .before .before .pre .0 .0) _ _ _ _ (c .before .before .before .before .before .before .before .pre .1 .0) (c .before .before .before .before .before .before .before .pre .1 .1) (c .before .before .before .before .before .before .before .pre .0 .1) (omega (arith, c .before .if1 .taken)) _ (c .more-between .ensures)
-
--- src/lib.rt:98:9
-more-between-requires-2 : tie.Need-more-between-requires-2
-more-between-requires-2 c κs = ((loads-less (c .before .before .before .before .before .before .pre .0 .0) (omega (arith, c .if1 .left)), omega arith), (c .before .before .before .before .before .before .pre .1 .0, c .before .before .before .before .before .before .pre .1 .1))
-
--- src/lib.rt:99:56
-add-more-between : tie.Need-add-more-between
-add-more-between c = search needs
+returns c = demand-alone (c .before .before .before .before .before .before .before .pre .0 .0) _ _ _ _ (c .before .before .before .before .before .before .before .pre .1 .0) (c .before .before .before .before .before .before .before .pre .1 .1) (c .before .before .before .before .before .before .before .pre .0 .1) (omega (arith, c .before .if1 .taken)) _ (c .with-more .ensures)
 
 -- src/lib.rt:99:9
-more-between-requires-3 : tie.Need-more-between-requires-3
-more-between-requires-3 c κs = search needs
+with-more-requires-2 : tie.Need-with-more-requires-2
+with-more-requires-2 c κs = ((loads-less (c .before .before .before .before .before .before .pre .0 .0) (omega (arith, c .if1 .left)), omega arith), (c .before .before .before .before .before .before .pre .1 .0, c .before .before .before .before .before .before .pre .1 .1, omega arith))
+
+-- src/lib.rt:100:48
+add-with-more : tie.Need-add-with-more
+add-with-more c = search needs
 
 -- src/lib.rt:100:5
-add-result-2 : tie.Need-add-result-2
-add-result-2 c = omega (arith, part-fits _ _ _ _ _ (c .before .before .before .before .before .before .before .before .pre .0 .0) (c .before .before .before .before .before .before .before .before .pre .1 .1) _ _ _ (c .before .more-between2 .ensures) (omega (arith, c .before .before .if1 .left)))
+with-more-requires-3 : tie.Need-with-more-requires-3
+with-more-requires-3 c κs = ((c .before .before .before .before .before .before .before .pre .0 .0, omega (arith, c .before .if1 .left)), (c .before .before .before .before .before .before .before .pre .1 .0, c .before .before .before .before .before .before .before .pre .1 .1, part-fits _ _ _ _ _ (c .before .before .before .before .before .before .before .pre .0 .0) (c .before .before .before .before .before .before .before .pre .1 .1) _ _ _ (omega arith) (c .with-more2 .ensures) (omega (arith, c .before .if1 .left))))
 
--- src/lib.rt:100:5
-add-result-3 : tie.Need-add-result-3
-add-result-3 c = omega (arith, part-fits _ _ _ _ _ (c .before .before .before .before .before .before .before .before .pre .0 .0) (c .before .before .before .before .before .before .before .before .pre .1 .1) _ _ _ (c .before .more-between2 .ensures) (omega (arith, c .before .before .if1 .left)), part-fits _ _ _ _ _ (c .before .before .before .before .before .before .before .before .pre .0 .0) (c .before .before .before .before .before .before .before .before .pre .1 .1) _ _ _ (c .more-between3 .ensures) (omega arith))
-
--- src/lib.rt:80:1
+-- src/lib.rt:81:1
 returns-2 : tie.Need-returns-2
-returns-2 c = demand-around (c .before .before .before .before .before .before .before .before .pre .0 .0) _ _ _ _ (c .before .before .before .before .before .before .before .before .pre .1 .0) (c .before .before .before .before .before .before .before .before .pre .1 .1) (c .before .before .before .before .before .before .before .before .pre .0 .1) (omega (arith, c .before .before .if1 .left)) _ _ (c .before .more-between2 .ensures) (c .more-between3 .ensures)
+returns-2 c = demand-around (c .before .before .before .before .before .before .before .before .pre .0 .0) _ _ _ _ (c .before .before .before .before .before .before .before .before .pre .1 .0) (c .before .before .before .before .before .before .before .before .pre .1 .1) (c .before .before .before .before .before .before .before .before .pre .0 .1) (omega (arith, c .before .before .if1 .left)) _ _ (c .before .with-more2 .ensures) (c .with-more3 .ensures)
 
 pub demand-spec : {M : Type 1} → statement M
 demand-spec =
@@ -61,12 +49,9 @@ demand-spec =
     cast-once
     cast-once-2
     add-once
-    more-between-requires
-    add-result
+    with-more-requires
     returns
-    more-between-requires-2
-    add-more-between
-    more-between-requires-3
-    add-result-2
-    add-result-3
+    with-more-requires-2
+    add-with-more
+    with-more-requires-3
     returns-2)

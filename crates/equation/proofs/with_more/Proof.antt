@@ -1,71 +1,67 @@
--- `equation::more_between` meets its contract: after each turn the sum is that of the places so far, and it fits 64 bits.
+-- `equation::with_more` meets its contract: after each turn the sum is that of the places so far, and it fits 64 bits.
 -- Assumes nothing.
 use Prim.Native.Nat.{_-_}
 use native.Mathlib.Omega.{arith}
-use Rattle.equation.proofs.SliceLaws.{Summing, summing-none, summing-fits, summing-more, summed-all}
-use Rattle.equation.proofs.more_between.Statement.{statement}
-use Rattle.equation.proofs.more_between.Tie as tie
+use Rattle.equation.proofs.SliceLaws.{Summing, summing-none, sum-high, summing-more, summed-all}
+use Rattle.equation.proofs.with_more.Statement.{statement}
+use Rattle.equation.proofs.with_more.Tie as tie
 
 abbrev Inv-loop : tie.InvT-loop
-Inv-loop periods costs spreads from to w sum₀ k₀ sum k = Summing periods costs spreads from to (w .0) k sum
+Inv-loop sum periods costs spreads from to w all₀ k₀ all k = Summing periods costs spreads sum from to (w .0) k all
 
 abbrev μ-loop : tie.MeasureT-loop
-μ-loop periods costs spreads from to w sum₀ k₀ sum k = to - k
+μ-loop sum periods costs spreads from to w all₀ k₀ all k = to - k
 
--- src/lib.rt:72:5
+-- src/lib.rt:73:5
 loop-holds : tie.Need-loop-holds Inv-loop μ-loop
-loop-holds c = summing-none _ _ _ _ _ _ (c .before .before .before .pre .0 .0) (c .before .before .before .pre .1 .0) (c .before .before .before .pre .1 .1) (c .before .before .before .pre .0 .1)
+loop-holds c = summing-none _ _ _ _ _ _ _ (c .before .before .before .pre .0 .0) (c .before .before .before .pre .1 .0) (c .before .before .before .pre .1 .1) (c .before .before .before .pre .1 .2) (c .before .before .before .pre .0 .1)
 
--- src/lib.rt:73:30
+-- src/lib.rt:74:36
 mul-t11 : tie.Need-mul-t11 Inv-loop μ-loop
 mul-t11 c = omega (arith, c .before .loop .inv .fit .few, c .loop-test .taken)
 
--- src/lib.rt:73:30
+-- src/lib.rt:74:36
 shared-slice-read-t13 : tie.Need-shared-slice-read-t13 Inv-loop μ-loop
 shared-slice-read-t13 c = omega (arith, c .before .before .loop .inv .fit .periodsLong, c .before .loop-test .taken)
 
--- src/lib.rt:73:49
+-- src/lib.rt:74:55
 mul-t15 : tie.Need-mul-t15 Inv-loop μ-loop
 mul-t15 c = omega (arith, c .before .before .loop .inv .fit .few, c .before .loop-test .taken)
 
--- src/lib.rt:73:49
+-- src/lib.rt:74:55
 shared-slice-read-t17 : tie.Need-shared-slice-read-t17 Inv-loop μ-loop
 shared-slice-read-t17 c = omega (arith, c .before .before .before .loop .inv .fit .costsLong, c .before .before .loop-test .taken)
 
--- src/lib.rt:73:66
+-- src/lib.rt:74:72
 mul-t19 : tie.Need-mul-t19 Inv-loop μ-loop
 mul-t19 c = omega (arith, c .before .before .before .loop .inv .fit .few, c .before .before .loop-test .taken)
 
--- src/lib.rt:73:66
+-- src/lib.rt:74:72
 shared-slice-read-t21 : tie.Need-shared-slice-read-t21 Inv-loop μ-loop
 shared-slice-read-t21 c = omega (arith, c .before .before .before .before .loop .inv .fit .spreadsLong, c .before .before .before .loop-test .taken)
 
--- src/lib.rt:73:16
-more-of-requires : tie.Need-more-of-requires Inv-loop μ-loop
-more-of-requires c κs = (c .before .before .before .before .loop .inv .fit .each (c .before .before .before .before .loop .k) (c .before .before .before .loop-test .taken), c .before .before .before .before .loop .inv .low, c .before .before .before .before .loop .inv .high)
+-- src/lib.rt:74:9
+with-load-requires : tie.Need-with-load-requires Inv-loop μ-loop
+with-load-requires c κs = (c .before .before .before .before .loop .inv .fit .each (c .before .before .before .before .loop .k) (c .before .before .before .loop-test .taken), c .before .before .before .before .loop .inv .low, c .before .before .before .before .loop .inv .high, sum-high _ _ _ _ _ _ _ _ _ 0 (c .before .before .before .before .loop .inv) (c .before .before .before .loop-test .taken))
 
 -- src/lib.rt:73:9
-add-sum : tie.Need-add-sum Inv-loop μ-loop
-add-sum c = omega (arith, summing-fits _ _ _ _ _ _ _ _ _ (c .before .before .before .before .before .loop .inv) (c .before .before .before .before .loop-test .taken) (c .more-of .ensures))
-
--- src/lib.rt:72:9
 add-k : tie.Need-add-k Inv-loop μ-loop
 add-k c = omega (arith, c .before .before .before .before .before .loop .inv .fit .few, c .before .before .before .before .loop-test .taken)
 
--- src/lib.rt:72:5
+-- src/lib.rt:73:5
 loop-less : tie.Need-loop-less Inv-loop μ-loop
 loop-less c = omega (arith, c .before .before .before .before .loop-test .taken)
 
--- src/lib.rt:72:5
+-- src/lib.rt:73:5
 loop-again : tie.Need-loop-again Inv-loop μ-loop
-loop-again c = summing-more _ _ _ _ _ _ _ _ _ (c .before .before .before .before .before .loop .inv) (c .before .before .before .before .loop-test .taken) (c .more-of .ensures)
+loop-again c = summing-more _ _ _ _ _ _ _ _ _ _ (c .before .before .before .before .before .loop .inv) (c .before .before .before .before .loop-test .taken) (c .with-load .ensures)
 
 -- src/lib.rt:59:1
 returns : tie.Need-returns Inv-loop μ-loop
-returns c = summed-all _ _ _ _ _ _ _ _ (c .before .loop .inv) (c .loop-test .left)
+returns c = summed-all _ _ _ _ _ _ _ _ _ (c .before .loop .inv) (c .loop-test .left)
 
-pub more-between-spec : {M : Type 1} → statement M
-more-between-spec =
+pub with-more-spec : {M : Type 1} → statement M
+with-more-spec =
     tie.close
     (tie.spec
     Inv-loop
@@ -77,8 +73,7 @@ more-between-spec =
     shared-slice-read-t17
     mul-t19
     shared-slice-read-t21
-    more-of-requires
-    add-sum
+    with-load-requires
     add-k
     loop-less
     loop-again
