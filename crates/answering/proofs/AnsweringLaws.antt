@@ -32,7 +32,7 @@ use Rattle.answering.specs.declared.Verdict.{Verdict}
 use Rattle.answering.specs.declared.Verdict.the-variants.{Refused, Schedulable, Late}
 use Rattle.answering.specs.Results.{isSchedulable, lateIf, lateAt, resultOf}
 use Rattle.answering.specs.Slices.{Decoded, DecodedFits, loadsIn, answerIn, roundsIn, groupEnd, GroupBefore, GroupFound}
-use Rattle.answering.proofs.GroupLaws.{own-inside, end-within, loads-around, costs-high, group-first, group-next, found-loads, count-within, cost-inside}
+use Rattle.answering.proofs.GroupLaws.{own-inside, end-within, loads-around, costs-high, group-first, group-next, found-loads, count-within, own-within, cost-inside}
 
 -- the verdict with one answer more is that of the first late place
 with-answer : (late : Bool) (verdict : Verdict) (place : Place) →
@@ -126,6 +126,9 @@ module _ (d : Decoded) (n : ℕ) where
 
     pub count-high : count ≤ n
     count-high = count-within (d .priorities) (d .costs) n (f .ranked) i beforeEnd beforeSum count all end sum h found
+
+    pub own-first : i ≤ count
+    own-first = own-within (d .priorities) (d .costs) n (f .ranked) i beforeEnd beforeSum count all end sum h found
 
     pub loads-fit : LoadsFit (d .periods) (d .costs) (d .spreads) count
     loads-fit = loads-less (f .loadsFit) count-high

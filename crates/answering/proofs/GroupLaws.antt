@@ -244,6 +244,14 @@ module _ (priorities costs : List ℕ) where
           | inr p ↦ let ends : count ≡ i = found .countIs ∙ rw (p .0) refl in omega (arith, ends)
         ]
 
+    -- the task's own place is one of them, or the next
+    pub own-within : i ≤ count
+    own-within =
+        elim (eqb? (wordOf priorities (i + 1)) (wordOf priorities i)) [
+          | inl p ↦ let ends : count ≡ groupEnd priorities n i = found .countIs ∙ rw (p .0) refl in omega (arith, ends, own-inside n r i h)
+          | inr p ↦ let ends : count ≡ i = found .countIs ∙ rw (p .0) refl in omega (arith, ends)
+        ]
+
     -- one cost of the task is among those up to the end of its group
     pub cost-inside : wordOf costs i ≤ all
     cost-inside = omega (arith, found .allIs, total-other (wordOf costs) i (groupEnd priorities n i) (own-inside n r i h))

@@ -163,7 +163,7 @@ fn passes(
     deadline: Ticks,
     claim: Ticks,
 ) -> bool
-    requires { ⌜ LoadsFit (now periods) (now costs) (now spreads) count × (others .0 ≡ sumOf costOf (loads (now periods) (now costs) (now spreads) own count)) ⌝ }
+    requires { ⌜ LoadsFit (now periods) (now costs) (now spreads) count × (own ≤ count) × (others .0 ≡ sumOf costOf (loads (now periods) (now costs) (now spreads) own count)) ⌝ }
     requires { ⌜ deadline .0 ≤ 1000000 ⌝ }
     ensures { λ r. ⌜ r ≡ claimPasses (base .0) (loads (now (periods .entry)) (now (costs .entry)) (now (spreads .entry)) own count) (latest .0) (deadline .0) (claim .0) ⌝ }
 {

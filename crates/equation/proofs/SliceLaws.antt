@@ -147,15 +147,16 @@ module _ {periods costs spreads : List ℕ} {count : ℕ} (fit : LoadsFit period
   all-parts : total shareOn count ≡ total moreOn count + total costOn count
   all-parts = total-same shareOn (λ k. moreOn k + costOn k) count share-parts ∙ total-add moreOn costOn count
 
-  pub demand-alone : count ≤ own → (all : ℕ) → all ≡ base + others + (total moreOn count - total moreOn 0) →
+  pub demand-alone : own ≡ count → (all : ℕ) → all ≡ base + others + (total moreOn own - total moreOn 0) →
       all ≡ demand base (loads periods costs spreads own count) w
   unfolding demand
-  demand-alone h all is =
+  demand-alone last all is =
       let same = gather-all (isOther own) loadOn count (λ k l. other-is own k (omega arith)) in
       omega (
         arith,
         is,
         once,
+        ap (total moreOn) last,
         total-none moreOn,
         ap (sumOf costOf) same,
         ap (sumOf (share w)) same,

@@ -83,7 +83,7 @@ fn with_more(
 }
 
 // What the task at place `own` and its loads ask for in w ticks, at least one: the loads are those of the first `count` places without its own,
-// and `others` is one cost of each.
+// which is one of them or the next, and `others` is one cost of each.
 pub fn demand(
     periods: &[u32],
     costs: &[u32],
@@ -94,14 +94,14 @@ pub fn demand(
     others: Ticks,
     w: Ticks,
 ) -> u64
-    requires { ⌜ LoadsFit (now periods) (now costs) (now spreads) count × (others .0 ≡ sumOf costOf (loads (now periods) (now costs) (now spreads) own count)) ⌝ }
+    requires { ⌜ LoadsFit (now periods) (now costs) (now spreads) count × (own ≤ count) × (others .0 ≡ sumOf costOf (loads (now periods) (now costs) (now spreads) own count)) ⌝ }
     requires { ⌜ (1 ≤ w .0) × (w .0 ≤ 1000000000) ⌝ }
     ensures { λ r. ⌜ r ≡ spec.demand (base .0) (loads (now (periods .entry)) (now (costs .entry)) (now (spreads .entry)) own count) (w .0) ⌝ }
 {
     let once = (base.0 as u64) + (others.0 as u64);
-    if count <= own {
-        return with_more(once, periods, costs, spreads, 0, count, w);
-    }
     let before = with_more(once, periods, costs, spreads, 0, own, w);
+    if count <= own {
+        return before;
+    }
     with_more(before, periods, costs, spreads, own + 1, count, w)
 }

@@ -3,7 +3,7 @@
 use Prim.Native.Nat.{_-_}
 use native.Mathlib.Omega.{arith}
 use Rattle.answering.specs.Slices.{decoded}
-use Rattle.answering.proofs.AnsweringLaws.{reached-more, reached-fits, base-fits, loads-fit, others-once, own-cost}
+use Rattle.answering.proofs.AnsweringLaws.{reached-more, reached-fits, base-fits, loads-fit, own-first, others-once, own-cost}
 use Rattle.claims.proofs.ClaimLaws.{Checking, checking-none, checking-all, turn-fails, turn-passes}
 use Rattle.claims.proofs.check_all.Statement.{statement}
 use Rattle.claims.proofs.check_all.Tie as tie
@@ -80,7 +80,7 @@ shared-slice-read-t28-4 c = omega (arith, c .before .before .before .before .bef
 
 -- src/lib.rt:125:13
 passes-requires : tie.Need-passes-requires Inv-loop μ-loop
-passes-requires c κs = ((loads-fit _ _ _ (c .before .before .before .before .before .before .before .before .before .before .before .before .before .before .loop .inv .walking .fits) (c .before .before .before .before .before .before .before .before .before .before .before .before .before .loop-test .taken) _ _ _ _ _ _ (c .before .before .before .before .before .before .before .before .before .group-of .ensures), others-once _ _ _ (c .before .before .before .before .before .before .before .before .before .before .before .before .before .before .loop .inv .walking .fits) (c .before .before .before .before .before .before .before .before .before .before .before .before .before .loop-test .taken) _ _ _ _ _ _ (c .before .before .before .before .before .before .before .before .before .group-of .ensures)), c .before .before .before .before .before .before .before .before .before .before .before .before .before .before .loop .inv .walking .fits .deadlineHigh _ (c .before .before .before .before .before .before .before .before .before .before .before .before .before .loop-test .taken))
+passes-requires c κs = ((loads-fit _ _ _ (c .before .before .before .before .before .before .before .before .before .before .before .before .before .before .loop .inv .walking .fits) (c .before .before .before .before .before .before .before .before .before .before .before .before .before .loop-test .taken) _ _ _ _ _ _ (c .before .before .before .before .before .before .before .before .before .group-of .ensures), own-first _ _ _ (c .before .before .before .before .before .before .before .before .before .before .before .before .before .before .loop .inv .walking .fits) (c .before .before .before .before .before .before .before .before .before .before .before .before .before .loop-test .taken) _ _ _ _ _ _ (c .before .before .before .before .before .before .before .before .before .group-of .ensures), others-once _ _ _ (c .before .before .before .before .before .before .before .before .before .before .before .before .before .before .loop .inv .walking .fits) (c .before .before .before .before .before .before .before .before .before .before .before .before .before .loop-test .taken) _ _ _ _ _ _ (c .before .before .before .before .before .before .before .before .before .group-of .ensures)), c .before .before .before .before .before .before .before .before .before .before .before .before .before .before .loop .inv .walking .fits .deadlineHigh _ (c .before .before .before .before .before .before .before .before .before .before .before .before .before .loop-test .taken))
 
 -- src/lib.rt:137:13
 returns : tie.Need-returns Inv-loop μ-loop
