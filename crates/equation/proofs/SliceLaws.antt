@@ -1,8 +1,9 @@
 -- The sum over lent slices, one load after the other, and that it fits 64 bits within the limits.
 -- Assumes nothing.
-use Prim.Native.Nat.{ℕ, zero, suc, _+_, _-_, _*_, _≤_, _<_}
+use Prim.Native.Nat.{ℕ, zero, suc, _+_, _-_, _*_, _≤_, _<_, max}
 use native.Mathlib.Omega.{arith}
 use native.Mathlib.Numerals.{unary-clauses}
+use native.Mathlib.Decide.{decLe}
 use native.Mathlib.Nat.{mul-le-mul, mul-le-mul-left, mul-one, le-refl}
 use mathlib.Core.Path.{_≡_, sym, _∙_, ap}
 use mathlib.Core.List.{List}
@@ -69,14 +70,14 @@ pub record Summing (periods costs spreads : List ℕ) (first from to w k sum : �
   pub high : w ≤ 1000000000
   pub firstHigh : first ≤ 1000000000000000000
   pub begun : from ≤ k
-  pub within : k ≤ to
+  pub within : k ≤ max from to
   pub sums : sum + total (moreAt periods costs spreads w) from ≡ first + total (moreAt periods costs spreads w) k
 
 module _ (periods costs spreads : List ℕ) (first from to w : ℕ) where
-  pub summing-none : LoadsFit periods costs spreads to → 1 ≤ w → w ≤ 1000000000 → first ≤ 1000000000000000000 → from ≤ to →
+  pub summing-none : LoadsFit periods costs spreads to → 1 ≤ w → w ≤ 1000000000 → first ≤ 1000000000000000000 →
       Summing periods costs spreads first from to w from first
-  summing-none f low high firstHigh h =
-      record { fit = f; low = low; high = high; firstHigh = firstHigh; begun = le-refl from; within = h; sums = omega arith }
+  summing-none f low high firstHigh =
+      record { fit = f; low = low; high = high; firstHigh = firstHigh; begun = le-refl from; within = omega arith; sums = omega arith }
 
   module _ (k sum next : ℕ) (s : Summing periods costs spreads first from to w k sum) where
     pub sum-high : k < to → sum ≤ 10000000000000000000
@@ -104,13 +105,15 @@ module _ (periods costs spreads : List ℕ) (first from to w : ℕ) where
   pub summed-all : (k sum : ℕ) → Summing periods costs spreads first from to w k sum → to ≤ k →
       sum ≡ first + (total (moreAt periods costs spreads w) to - total (moreAt periods costs spreads w) from)
   summed-all k sum s h =
-      let all : k ≡ to = omega (arith, s .within) in
-      omega (
-        arith,
-        s .sums,
-        ap (total (moreAt periods costs spreads w)) all,
-        total-longer (moreAt periods costs spreads w) from k (s .begun),
-      )
+      let sums = total (moreAt periods costs spreads w) in
+      elim (decLe from to) [
+        | yes some ↦
+            let all : k ≡ to = omega (arith, s .within) in
+            omega (arith, s .sums, ap sums all, total-longer (moreAt periods costs spreads w) from to some)
+        | no none ↦
+            let same : k ≡ from = omega (arith, s .within, s .begun) in
+            omega (arith, s .sums, ap sums same, total-longer (moreAt periods costs spreads w) to from (omega arith))
+      ]
 
 -- the slices hold fewer loads too
 pub loads-less : {periods costs spreads : List ℕ} {n k : ℕ} → LoadsFit periods costs spreads n → k ≤ n → LoadsFit periods costs spreads k
@@ -147,7 +150,7 @@ module _ {periods costs spreads : List ℕ} {count : ℕ} (fit : LoadsFit period
   all-parts : total shareOn count ≡ total moreOn count + total costOn count
   all-parts = total-same shareOn (λ k. moreOn k + costOn k) count share-parts ∙ total-add moreOn costOn count
 
-  pub demand-alone : own ≡ count → (all : ℕ) → all ≡ base + others + (total moreOn own - total moreOn 0) →
+  demand-alone : own ≡ count → (all : ℕ) → all ≡ base + others + (total moreOn own - total moreOn 0) →
       all ≡ demand base (loads periods costs spreads own count) w
   unfolding demand
   demand-alone last all is =
@@ -165,7 +168,7 @@ module _ {periods costs spreads : List ℕ} {count : ℕ} (fit : LoadsFit period
         all-parts,
       )
 
-  pub demand-around : own < count → (before all : ℕ) → before ≡ base + others + (total moreOn own - total moreOn 0) →
+  demand-around : own < count → (before all : ℕ) → before ≡ base + others + (total moreOn own - total moreOn 0) →
       all ≡ before + (total moreOn count - total moreOn (own + 1)) → all ≡ demand base (loads periods costs spreads own count) w
   unfolding demand
   demand-around h before all first second =
@@ -184,3 +187,13 @@ module _ {periods costs spreads : List ℕ} {count : ℕ} (fit : LoadsFit period
         share-parts own h,
         all-parts,
       )
+
+  pub demand-parts : own ≤ count → (before all : ℕ) → before ≡ base + others + (total moreOn own - total moreOn 0) →
+      all ≡ before + (total moreOn count - total moreOn (own + 1)) → all ≡ demand base (loads periods costs spreads own count) w
+  demand-parts h before all first second =
+      elim (decLe count own) [
+        | yes last ↦
+            let same : own ≡ count = omega arith in
+            demand-alone same all (omega (arith, first, second, total-longer moreOn count (own + 1) (omega arith)))
+        | no more ↦ demand-around (omega arith) before all first second
+      ]

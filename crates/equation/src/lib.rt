@@ -55,7 +55,7 @@ fn with_load(sum: u64, period: Ticks, cost: Ticks, spread: Ticks, w: Ticks) -> u
     sum + (cost.0 as u64) * ((div_up(window, period) - 1) as u64)
 }
 
-// The sum with what the loads of some places, those from `from` on and before `to`, ask for in w ticks, at least one, beside one cost each.
+// The sum with what the loads of some places, those from `from` on and before `to`, if there are any, ask for in w ticks, at least one, beside one cost each.
 fn with_more(
     sum: u64,
     periods: &[u32],
@@ -65,7 +65,7 @@ fn with_more(
     to: usize,
     w: Ticks,
 ) -> u64
-    requires { ⌜ LoadsFit (now periods) (now costs) (now spreads) to × (from ≤ to) ⌝ }
+    requires { ⌜ LoadsFit (now periods) (now costs) (now spreads) to ⌝ }
     requires { ⌜ (1 ≤ w .0) × (w .0 ≤ 1000000000) × («sum» ≤ 1000000000000000000) ⌝ }
     ensures { λ r. ⌜ r ≡ «sum» + (total (moreAt (now (periods .entry)) (now (costs .entry)) (now (spreads .entry)) (w .0)) to - total (moreAt (now (periods .entry)) (now (costs .entry)) (now (spreads .entry)) (w .0)) from) ⌝ }
 {
@@ -100,8 +100,5 @@ pub fn demand(
 {
     let once = (base.0 as u64) + (others.0 as u64);
     let before = with_more(once, periods, costs, spreads, 0, own, w);
-    if count <= own {
-        return before;
-    }
     with_more(before, periods, costs, spreads, own + 1, count, w)
 }

@@ -14,7 +14,7 @@ abbrev μ-loop : tie.MeasureT-loop
 
 -- src/lib.rt:73:5
 loop-holds : tie.Need-loop-holds Inv-loop μ-loop
-loop-holds c = summing-none _ _ _ _ _ _ _ (c .before .before .before .pre .0 .0) (c .before .before .before .pre .1 .0) (c .before .before .before .pre .1 .1) (c .before .before .before .pre .1 .2) (c .before .before .before .pre .0 .1)
+loop-holds c = summing-none _ _ _ _ _ _ _ (c .before .before .before .pre .0) (c .before .before .before .pre .1 .0) (c .before .before .before .pre .1 .1) (c .before .before .before .pre .1 .2)
 
 -- src/lib.rt:74:36
 mul-t11 : tie.Need-mul-t11 Inv-loop μ-loop
