@@ -18,6 +18,7 @@ import enum
 import fractions
 import itertools
 import os
+import re
 import sys
 
 # ---------------------------------------------------------------------------
@@ -373,6 +374,33 @@ def claimed_line(data, claims):
     except Refused as refusal:
         return str(refusal)
     return failing_line(failing_claims(tasks, rows, claims))
+
+
+# The text of a list of claims: "whole decimal numbers separated by blanks, tabs, commas or line
+# ends". What cannot be read is told by its first byte; so is the first byte past the longest text.
+LIST_PIECES = re.compile(rb"[0-9]+|[ \t,\r\n]+|[^0-9 \t,\r\n]")
+LONGEST_LIST = 65535
+
+
+def listed_claims(text):
+    """The numbers of a list's text, and None; or no numbers, and the byte that cannot be read."""
+    numbers = []
+    for piece in LIST_PIECES.finditer(text[:LONGEST_LIST]):
+        word = piece.group()
+        if word.isdigit():
+            # No number of more digits than the greatest one is turned into an int.
+            digits = word.lstrip(b"0") or b"0"
+            if len(digits) > len(str(GREATEST_WORD)) or int(digits) > GREATEST_WORD:
+                return [], piece.start()
+            numbers.append(int(digits))
+        elif word.strip(b" \t,\r\n"):
+            return [], piece.start()
+    return ([], LONGEST_LIST) if len(text) > LONGEST_LIST else (numbers, None)
+
+
+def list_line(text, data):
+    claims, unreadable = listed_claims(text)
+    return claimed_line(data, claims) if unreadable is None else "unreadable at %d" % unreadable
 
 
 # ---------------------------------------------------------------------------
@@ -3717,16 +3745,17 @@ def command_make(arguments):
     claimed = list(all_claims())
     tables = b"".join(map(entry_bytes, entries))
     claims = b"".join(map(claimed_bytes, claimed))
-    texts = itertools.chain(map(entry_text, itertools.count(), entries),
-                            map(claimed_text, itertools.count(), claimed))
-    expected = "".join(texts).encode("ascii")
+    expected = "".join(map(entry_text, itertools.count(), entries)).encode("ascii")
+    expected_claims = "".join(map(claimed_text, itertools.count(), claimed)).encode("ascii")
     os.makedirs(arguments.folder, exist_ok=True)
     write_file(arguments.folder, "tables", tables)
-    write_file(arguments.folder, "claims", claims)
     write_file(arguments.folder, "expected", expected)
-    print("reference: %d tables, %d bytes of tables; %d lists of claims, %d bytes with their "
-          "tables; %d bytes of answers"
-          % (len(entries), len(tables), len(claimed), len(claims), len(expected)))
+    write_file(arguments.folder, "claims", claims)
+    write_file(arguments.folder, "expected-claims", expected_claims)
+    print("reference: %d tables, %d bytes of tables, %d bytes of answers; %d lists of claims, "
+          "%d bytes with their tables, %d bytes of answers"
+          % (len(entries), len(tables), len(expected), len(claimed), len(claims),
+             len(expected_claims)))
 
 
 def command_check(_arguments):
@@ -3781,7 +3810,8 @@ def command_plays(arguments):
         print("%s %d %s" % (playable.name, ticks, playable.title))
 
 
-MAKE_HELP = """writes FOLDER/tables, FOLDER/claims and FOLDER/expected, the same bytes at every run
+MAKE_HELP = """writes FOLDER/tables and FOLDER/expected, and FOLDER/claims and FOLDER/expected-claims,
+the same bytes at every run
 
 An entry of "tables" is 2 bytes, big-endian, with the table's length; 1 byte with the length in
 words of the slice lent for answers; 1 byte with that of the slice lent for rounds; and the
@@ -3796,9 +3826,9 @@ longer the filler; and a further line "differs" if the engine's verdict or words
 analysis's where neither refuses, or if a refusal of the engine's changed a word.)
 
 An entry of "claims" is 2 bytes, big-endian, with the table's length; 1 byte with the number of
-claims; the table's bytes; and each claim as 4 bytes, big-endian. Behind the lines of all tables
-"expected" holds for each entry K of "claims", counted from 0, a line "claims K" and a line with
-"pass", "fails" and the first place that fails, or the refusal.
+claims; the table's bytes; and each claim as 4 bytes, big-endian. "expected-claims" holds for each
+entry K, counted from 0, a line "claims K" and a line with "pass", "fails" and the first place that
+fails, or the refusal.
 """ % (FILLER, FILLER)
 
 CLASSES_HELP = """writes one table for each class that is measured, FOLDER/NAME.table, and prints
