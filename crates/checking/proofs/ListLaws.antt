@@ -20,7 +20,7 @@ use Rattle.scanning.specs.declared.Scanned.{Scanned}
 use Rattle.scanning.specs.declared.Scanned.the-variants.{Numbers, Unreadable}
 use Rattle.scanning.specs.Reading.{Reading, numbers, unreadable, readingOf}
 use Rattle.scanning.specs.Read.{Read, scannedFor, wordsAfter}
-use Rattle.checking.specs.Text.{claimedLine, unreadableLine, textFor, mostText, cutOff, checkText}
+use Rattle.checking.specs.Text.{claimedLine, unreadableLine, textFor, mostText, checkText}
 
 -- no table has more than 32 tasks, so that 33 words of a list are answered as the whole list is
 same-answer : (bytes claims : List ℕ) → claimedOf bytes (take 33 claims) ≡ claimedOf bytes claims

@@ -1,5 +1,5 @@
 // The text of a list of claims and the bytes of a table in, one line of text out (SPECIFICATION 10.2; document 02, L7).
-ghost use Prim.Native.Nat.{_≤_, min};
+ghost use Prim.Native.Nat.{min};
 ghost use mathlib.Core.Path.{_≡_};
 ghost use Rattle.printing.specs.Appended.{Appended};
 ghost use Rattle.scanning.specs.Reading.{readingOf};

@@ -3,7 +3,6 @@
 // An entry of the file is two bytes with the table's length, one byte with the number of claims, the table's bytes, and four bytes for each
 // claim; numbers are big-endian, as in a table.
 ghost use Prim.Native.Nat.{_≤_, _<_};
-ghost use mathlib.Core.Path.{_≡_};
 ghost use lib.ListN.{length};
 use checking::fewer;
 use libc::STDOUT_FILENO;

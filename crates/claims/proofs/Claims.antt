@@ -1,11 +1,11 @@
 -- What is claimed of the checker for the bytes of any table and any list of words.
 -- Assumes nothing.
-use Prim.Native.Nat.{ℕ, _+_, _-_, _≤_, _<_}
+use Prim.Native.Nat.{ℕ, _-_, _≤_, _<_}
 use native.Mathlib.Omega.{arith}
 use native.Mathlib.Nat.{le-refl, le-of-eq}
 use mathlib.Core.Path.{_≡_, refl, sym, _∙_, ap, subst}
 use mathlib.Core.Bool.{Bool, true, false}
-use mathlib.Core.Logic.{_≢_, inl, inr}
+use mathlib.Core.Logic.{inl, inr}
 use mathlib.Core.List.{List}
 use lib.Dec.{eqb}
 use lib.ListN.{length, take, length-take}
@@ -20,22 +20,18 @@ use Rattle.tables.specs.declared.Check.{Check}
 use Rattle.tables.specs.declared.Check.the-variants as check
 use Rattle.tables.specs.Fields.{taskCountField}
 use Rattle.tables.specs.Layout.{taskCount, tasksOf, tableOf}
-use Rattle.tables.specs.Refusals.{at}
 use Rattle.tables.specs.Checks.{readCheck, tableCheck}
 use Rattle.tables.specs.Meaning.{TableRight, RoomFor}
-use Rattle.tables.specs.Deserved.{Deserved}
 use Rattle.tables.proofs.LayoutLaws.{layout-sound, tasks-count}
 use Rattle.tables.proofs.PlaceLaws.{refusal-place}
 use Rattle.tables.proofs.CheckLaws.{table-deserved, table-gives, table-right, table-clean}
 use Rattle.tables.proofs.OrderLaws.{read-decides, all-pass as pass-checks}
 use Rattle.equation.specs.Demand.{demand}
-use Rattle.equation.specs.Laws.{IsSmallest}
 use Rattle.equation.proofs.Laws.{enoughInTime}
 use Rattle.runs.proofs.EquationRight.{enoughInRuns}
 use Rattle.answering.specs.declared.Verdict.the-variants as verdict
 use Rattle.answering.specs.Results.{isSchedulable, lateAt, resultOf}
 use Rattle.response.specs.Analysis.{baseOf, answerOf}
-use Rattle.response.specs.Outcome.{Call, Left, Outcome}
 use Rattle.response.specs.Statements.{Accepted, AnswerRight, ResultRight}
 use Rattle.response.proofs.PlaceLaws.{schedulable-only}
 use Rattle.response.proofs.TableLaws.{tasks-fit}
@@ -45,7 +41,7 @@ use Rattle.claims.specs.declared.Claimed.the-variants.{Refused, WrongCou
 use Rattle.claims.specs.Claims.{passesAt, comparedOf, claimedOf, Checked}
 use Rattle.claims.specs.Numbers.{claimedPlace}
 use Rattle.claims.specs.Statements as says
-use Rattle.claims.specs.Statements.{Passes, PassBefore, Compared, ClaimedRight}
+use Rattle.claims.specs.Statements.{Passes, Compared, ClaimedRight}
 use Rattle.claims.proofs.ClaimLaws as laws
 use Rattle.claims.proofs.ColumnLaws.{read-refused, wrong-count, compared}
 

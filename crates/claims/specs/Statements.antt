@@ -8,7 +8,6 @@ use mathlib.Core.List.{List}
 use lib.ListN.{length, take}
 use Rattle.model.specs.Lists.{wordOf}
 use Rattle.model.specs.Tables.{Table, taskOf, loadsOf}
-use Rattle.tables.specs.declared.Refusal.{Refusal}
 use Rattle.tables.specs.Layout.{taskCount, rowCount, tasksOf, tableOf}
 use Rattle.tables.specs.Meaning.{TableRight, RoomFor}
 use Rattle.tables.specs.Deserved.{Deserved}

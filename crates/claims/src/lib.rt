@@ -148,9 +148,8 @@ fn window(claim: Ticks, latest: Ticks) -> Ticks
     Ticks(claim.0 - latest.0)
 }
 
-// Does the claim of the task at place `own` pass? Its loads are those of the first `count` places without its own, and `others` is one cost of each.
-// No tick is taken off a claim that is too small, and nothing is asked for one that is past
-// the deadline.
+// Does the claim of the task at place `own` pass? Its loads are those of the first `count` places without its own, and `others` is one cost of
+// each. No tick is taken off a claim that is too small, and nothing is asked for one that is past the deadline.
 fn passes(
     periods: &[u32],
     costs: &[u32],

@@ -3,16 +3,12 @@
 use Prim.Native.Nat.{ℕ, zero, suc, _+_, _-_, _≤_, _<_}
 use native.Mathlib.Omega.{arith}
 use native.Mathlib.Decide.{ℕ-discrete, decLe}
-use mathlib.Core.Path.{_≡_, refl, sym, _∙_, ap, subst}
-use mathlib.Core.Bool.{Bool, true, false}
+use mathlib.Core.Path.{_≡_, refl, _∙_, ap, subst}
 use mathlib.Core.List.{List}
-use mathlib.Core.Logic.{_⊎_, inl, inr}
-use lib.Dec.{eqb, leb, ltb}
-use borrow.Author.Tests.{eqb-true, eqb-false, eq-eqb, ne-eqb, lt-ltb, le-leb, lt-leb}
+use borrow.Author.Tests.{eqb-true, eq-eqb, ne-eqb, lt-ltb, le-leb, lt-leb}
 use Rattle.model.specs.Tables.{Load}
-use Rattle.model.specs.Search.{firstFrom}
 use Rattle.model.proofs.Search as search-laws
-use Rattle.model.proofs.Tests.{ltb?, leb?, clash}
+use Rattle.model.proofs.Tests.{clash}
 use Rattle.equation.specs.Demand.{demand}
 use Rattle.equation.specs.Answer.{solves, smallest, answer, answerFor}
 use Rattle.equation.specs.Laws.{IsSmallest, SmallestMeans, AnswerMeans, SmallestExists, EnoughInTime}

@@ -55,7 +55,8 @@ fn with_load(sum: u64, period: Ticks, cost: Ticks, spread: Ticks, w: Ticks) -> u
     sum + (cost.0 as u64) * ((div_up(window, period) - 1) as u64)
 }
 
-// The sum with what the loads of some places, those from `from` on and before `to`, if there are any, ask for in w ticks, at least one, beside one cost each.
+// The sum with what the loads of some places, those from `from` on and before `to`, if there are any, ask for in w ticks, at least one, beside
+// one cost each.
 fn with_more(
     sum: u64,
     periods: &[u32],
