@@ -56,18 +56,18 @@ pub record EquationRight : Type 0 where
   pub bothHalves : (tasks : List Task) → TasksFit tasks → NoDelay tasks → (i : ℕ) → i < length tasks → Alone tasks i →
       Answers tasks i (responseOf tasks i)
 
+-- It says so of no other number up to the deadline: a generous one fails "some run", a small one fails "every job".
+abbrev pub OnlyAnswer : Type 0
+OnlyAnswer =
+    (tasks : List Task) (i R other : ℕ) → R ≤ taskOf tasks i .deadline → other ≤ taskOf tasks i .deadline →
+    Answers tasks i R → Answers tasks i other → R ≡ other
+
 -- The first half asks for demand(w) ≤ w alone: no job exceeds any w up to the period that is so, the answer or a later one, whoever shares
 -- the task's priority.
 abbrev pub EnoughInRuns : Type 0
 EnoughInRuns =
     (tasks : List Task) → TasksFit tasks → NoDelay tasks → (i : ℕ) → i < length tasks → (w : ℕ) → w ≤ taskOf tasks i .period →
     demand (taskOf tasks i .cost) (loadsOf tasks i) w ≤ w → NoneExceeds tasks i w
-
--- It says so of no other number up to the deadline: a generous one fails "some run", a small one fails "every job".
-abbrev pub OnlyAnswer : Type 0
-OnlyAnswer =
-    (tasks : List Task) (i R other : ℕ) → R ≤ taskOf tasks i .deadline → other ≤ taskOf tasks i .deadline →
-    Answers tasks i R → Answers tasks i other → R ≡ other
 
 -- For any tasks and any jobs there is a legal schedule: the computed one.
 abbrev pub ScheduleExists : Type 0
