@@ -376,8 +376,8 @@ def claimed_line(data, claims):
     return failing_line(failing_claims(tasks, rows, claims))
 
 
-# The text of a list of claims: "whole decimal numbers separated by blanks, tabs, commas or line
-# ends". What cannot be read is told by its first byte; so is the first byte past the longest text.
+# The text of a list of claims: whole decimal numbers with blanks, tabs, commas or line ends between
+# them. What cannot be read is told by its first byte; so is the first byte past the longest text.
 LIST_PIECES = re.compile(rb"[0-9]+|[ \t,\r\n]+|[^0-9 \t,\r\n]")
 LONGEST_LIST = 65535
 
