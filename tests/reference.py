@@ -377,15 +377,14 @@ def claimed_line(data, claims):
 
 
 # The text of a list of claims: whole decimal numbers with blanks, tabs, commas or line ends between
-# them. What cannot be read is told by its first byte; so is the first byte past the longest text.
+# them. What cannot be read is told by its first byte.
 LIST_PIECES = re.compile(rb"[0-9]+|[ \t,\r\n]+|[^0-9 \t,\r\n]")
-LONGEST_LIST = 65535
 
 
 def listed_claims(text):
     """The numbers of a list's text, and None; or no numbers, and the byte that cannot be read."""
     numbers = []
-    for piece in LIST_PIECES.finditer(text[:LONGEST_LIST]):
+    for piece in LIST_PIECES.finditer(text):
         word = piece.group()
         if word.isdigit():
             # No number of more digits than the greatest one is turned into an int.
@@ -395,7 +394,7 @@ def listed_claims(text):
             numbers.append(int(digits))
         elif word.strip(b" \t,\r\n"):
             return [], piece.start()
-    return ([], LONGEST_LIST) if len(text) > LONGEST_LIST else (numbers, None)
+    return numbers, None
 
 
 def list_line(text, data):

@@ -1,11 +1,26 @@
 // Checks a list of claims against a table. The first argument names the file with the list's text; the table comes from standard input.
 ghost use Prim.Native.Nat.{_≤_};
+ghost use mathlib.Core.Path.{_≡_};
 ghost use lib.ListN.{length};
 ghost use Rattle.printing.specs.Longest.{Whole};
-ghost use Rattle.checking.specs.Text.{checkText};
+ghost use Rattle.scanning.specs.Pieces.{Within, wordsAt, gone};
+ghost use Rattle.checking.specs.Pieces.{wordsKept, lineAfter};
 ghost use Rattle.checking.specs.Longest.{longest};
+ghost use Rattle.checker.specs.Lists.{listWithin, cutOff};
 use libc::STDIN_FILENO;
 use libc::STDOUT_FILENO;
+use scanning::Scan;
+use scanning::State;
+use scanning::TextPlace;
+
+// 2^63: a proved loop has to end, and the system counts the bytes of a file in 63 bits.
+const MOST_TEXT: usize = 9223372036854775808;
+
+// The list's text, gone through, or a file that can't be read.
+enum List {
+    Failed,
+    Gone(Scan),
+}
 
 fn main() {
     let mut name = io::buffer();
@@ -24,27 +39,69 @@ fn check_file(name: &[u8]) {
         os::fail(name);
         return;
     }
-    // one byte more than the longest list that is read, so that a longer one is seen to be too long
-    let mut list = io::large_buffer();
-    let length = io::read_full(file, &mut list);
+    let mut words = [0u32; checking::WORDS];
+    let list = read_list(file, &mut words);
+    match list {
+        List::Failed => os::fail(name),
+        List::Gone(scan) => check_input(scan, &mut words),
+    }
     libc::close(file);
-    check_input(&list[..length]);
+}
+
+// Goes through the file to its end, piece by piece as it is read, or to something that can't be read.
+fn read_list(file: i32, words: &mut [u32]) -> List
+    ensures { λ r. ⌜ listWithin r ⌝ }
+{
+    let mut piece = io::large_buffer();
+    let mut scan = scanning::begin();
+    while scan.at.0 < MOST_TEXT {
+        let got = libc::read(file, &mut piece);
+        if got < 0 {
+            return List::Failed;
+        }
+        let taken = io::count(got, &piece);
+        if taken == 0 {
+            return List::Gone(scan);
+        }
+        scan = scanning::go_on(scan, &piece[..taken], words);
+        if scanning::is_stuck(scan) {
+            return List::Gone(scan);
+        }
+    }
+    List::Gone(cut_off(scan))
+}
+
+// Nothing is read from here on, and nothing passes that was not read whole.
+fn cut_off(scan: Scan) -> Scan
+    ensures { λ r. ⌜ r ≡ cutOff scan ⌝ }
+{
+    Scan {
+        state: State::Stuck(TextPlace(scan.at.0)),
+        at: TextPlace(scan.at.0),
+        count: scan.count,
+    }
 }
 
 // Reads the table, and writes what is said of the claims in one call.
-fn check_input(list: &[u8]) {
+fn check_input(scan: Scan, words: &mut [u32])
+    requires { ⌜ Within scan 0 ⌝ }
+    requires { ⌜ length (now words) ≡ wordsKept ⌝ }
+{
     // one byte more than the longest table
     let mut input = [0u8; 1062];
     let length = io::read_full(STDIN_FILENO, &mut input);
     let mut out = [0u8; checking::LONGEST];
-    let end = check(list, &input[..length], &mut out);
+    let end = check(scan, words, &input[..length], &mut out);
     io::write_all(STDOUT_FILENO, &out[..end]);
 }
 
 // Puts the whole line for the list and the table into a buffer that holds any, and answers where it ends.
-fn check(list: &[u8], table: &[u8], out: &mut [u8]) -> usize
+fn check(scan: Scan, words: &mut [u32], table: &[u8], out: &mut [u8]) -> usize
+    requires { ⌜ Within scan 0 ⌝ }
+    requires { ⌜ length (now words) ≡ wordsKept ⌝ }
     requires { ⌜ longest ≤ length (now out) ⌝ }
-    ensures { λ r. ⌜ Whole (now (out .entry)) (checkText (now (list .entry)) (now (table .entry))) r (now (out .exit)) ⌝ }
+    ensures { λ r. ⌜ Whole (now (out .entry)) (lineAfter (gone scan (now (words .entry))) (now (table .entry))) r (now (out .exit)) ⌝ }
+    ensures { λ _. ⌜ now (words .exit) ≡ wordsAt scan (now (words .entry)) ⌝ }
 {
-    checking::check_text(list, table, out)
+    checking::check_list(scan, words, table, out)
 }

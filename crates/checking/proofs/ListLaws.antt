@@ -1,13 +1,13 @@
 -- What is found of a list's text and a table: the words that are kept stand for the whole list.
 -- Assumes nothing.
-use Prim.Native.Nat.{ℕ, _≤_, _<_, min}
+use Prim.Native.Nat.{ℕ, _<_, min}
 use native.Mathlib.Omega.{arith}
 use native.Mathlib.Decide.{decLe}
 use mathlib.Core.Path.{_≡_, refl, sym, _∙_, ap}
+use mathlib.Core.Bool.{true}
 use mathlib.Core.List.{List, _++_}
 use lib.ListN.{length, take, drop, length-take}
 use lib.Seq.{take-all, take-append-seam}
-use borrow.Author.Tests.{le-leb, lt-leb}
 use Rattle.tables.specs.declared.Check.{Check}
 use Rattle.tables.specs.declared.Check.the-variants as check
 use Rattle.tables.specs.Checks.{readCheck}
@@ -18,9 +18,15 @@ use Rattle.claims.proofs.Claims.{few-tasks}
 use Rattle.scanning.specs.declared.TextPlace.{TextPlace}
 use Rattle.scanning.specs.declared.Scanned.{Scanned}
 use Rattle.scanning.specs.declared.Scanned.the-variants.{Numbers, Unreadable}
+use Rattle.scanning.specs.declared.State.{State}
+use Rattle.scanning.specs.declared.State.the-variants.{Outside, Inside, Stuck}
+use Rattle.scanning.specs.declared.Scan.{Scan}
 use Rattle.scanning.specs.Reading.{Reading, numbers, unreadable, readingOf}
-use Rattle.scanning.specs.Read.{Read, scannedFor, wordsAfter}
-use Rattle.checking.specs.Text.{claimedLine, unreadableLine, textFor, mostText, checkText}
+use Rattle.scanning.specs.Read.{scannedFor, wordsAfter}
+use Rattle.scanning.specs.Pieces.{stuck, answerOf, answerAt, wordsAt, Ended, Gone, gone, joined, allThrough}
+use Rattle.scanning.proofs.PieceLaws.{piecesRight}
+use Rattle.checking.specs.Text.{claimedLine, unreadableLine, textFor, checkText}
+use Rattle.checking.specs.Pieces.{wordsKept, lineFor, lineAfter, AnyPieces}
 
 -- no table has more than 32 tasks, so that 33 words of a list are answered as the whole list is
 same-answer : (bytes claims : List ℕ) → claimedOf bytes (take 33 claims) ≡ claimedOf bytes claims
@@ -36,64 +42,59 @@ same-answer bytes claims =
         sym (wrong-count bytes (take 33 claims) e (λ same. omega (arith, same, length-take 33 claims, few-tasks bytes e)))
         ∙ wrong-count bytes claims e (λ same. omega (arith, same, few-tasks bytes e))
 
-abbrev countIn : Scanned → ℕ
-countIn (Numbers count) = count
-countIn (Unreadable place) = 0
+-- What `check_list` says is the line for what is known behind the last piece.
+module _ {scan : Scan} {words new : List ℕ} {scanned : Scanned} (bytes : List ℕ) (ended : Ended scan words scanned new) where
+  pub list-checked : {count kept : ℕ} {claimed : Claimed} → scanned ≡ Numbers count → kept ≡ min count wordsKept →
+      Checked bytes (take kept new) claimed → claimedLine claimed ≡ lineAfter (gone scan words) bytes
+  unfolding lineAfter
+  list-checked {count} {kept} {claimed} counted few checked =
+      ap claimedLine (checked ∙ ap (λ (k : ℕ). claimedOf bytes (take k new)) few)
+      ∙ ap (λ (s : Scanned). lineFor s new bytes) (sym counted ∙ ended .resultIs)
+      ∙ ap (λ (xs : List ℕ). lineFor (answerAt scan) xs bytes) (ended .wordsAre)
 
-abbrev placeIn : Scanned → ℕ
-placeIn (Numbers count) = 0
-placeIn (Unreadable place) = place .0
+  pub list-unreadable : {place : TextPlace} → scanned ≡ Unreadable place → unreadableLine (place .0) ≡ lineAfter (gone scan words) bytes
+  unfolding lineAfter
+  list-unreadable {place} is =
+      ap (λ (s : Scanned). lineFor s new bytes) (sym is ∙ ended .resultIs)
+      ∙ ap (λ (xs : List ℕ). lineFor (answerAt scan) xs bytes) (ended .wordsAre)
 
--- a list that is read: the words that are kept are its first 33
-pub list-checked : (list bytes old new : List ℕ) (scanned : Scanned) → length old ≡ 33 → Read list old scanned new → (count : ℕ) →
-    scanned ≡ Numbers count → (kept : ℕ) → kept ≡ min count 33 → (claimed : Claimed) → Checked bytes (take kept new) claimed →
-    claimedLine claimed ≡ textFor (readingOf list) bytes
-list-checked list bytes old new scanned long read count counted kept few claimed checked = go (readingOf list) refl
-  where
-    go : (reading : Reading) → readingOf list ≡ reading → claimedLine claimed ≡ textFor (readingOf list) bytes
-    go (numbers claims) e =
-        let all : count ≡ length claims = ap countIn (sym counted ∙ read .resultIs ∙ ap scannedFor e) in
-        let words : new ≡ take 33 claims ++ drop (length claims) old =
-        read .wordsAre ∙ ap (λ (r : Reading). wordsAfter r old) e ∙ ap (λ (k : ℕ). take k claims ++ drop (length claims) old) long in
-        let whole : kept ≡ length (take 33 claims) = omega (arith, few, all, length-take 33 claims) in
-        let part : take kept new ≡ take 33 claims =
-        rw (whole, words) (take-append-seam (take 33 claims) (drop (length claims) old)) in
-        ap claimedLine (checked ∙ ap (claimedOf bytes) part ∙ same-answer bytes claims) ∙ sym (ap (λ (r : Reading). textFor r bytes) e)
-    go (unreadable place) e =
-        let z : _≡_ {A = ℕ} 0 1 = cc (counted, read .resultIs, ap scannedFor e) in absurd (omega arith)
+stuck-told : (state : State) (count : ℕ) → stuck state ≡ true → (place : TextPlace) × (answerOf state count ≡ Unreadable place)
+stuck-told Outside count h = let z : _≡_ {A = ℕ} 0 1 = cc (h) in absurd (omega arith)
+stuck-told (Inside from value) count h = let z : _≡_ {A = ℕ} 0 1 = cc (h) in absurd (omega arith)
+stuck-told (Stuck place) count h = (place, refl)
 
--- and one that can't be read
-module _ (list old new : List ℕ) (scanned : Scanned) (read : Read list old scanned new) where
-  unreadable-at : (place : TextPlace) → scanned ≡ Unreadable place → readingOf list ≡ unreadable (place .0)
-  unreadable-at place is = go (readingOf list) refl
+-- And that is the line for the list: the words that are kept stand for all of it.
+module _ (list bytes : List ℕ) (known : Gone) (is : answerAt (known .scan) ≡ scannedFor (readingOf list)) where
+  line-read : (old : List ℕ) → length old ≡ wordsKept →
+      ((values : List ℕ) → readingOf list ≡ numbers values → wordsAt (known .scan) (known .words) ≡ wordsAfter (numbers values) old) →
+      lineAfter known bytes ≡ checkText list bytes
+  unfolding lineAfter checkText
+  line-read old long kept = go (readingOf list) refl
     where
-      go : (reading : Reading) → readingOf list ≡ reading → readingOf list ≡ unreadable (place .0)
-      go (numbers claims) e = let z : _≡_ {A = ℕ} 0 1 = cc (is, read .resultIs, ap scannedFor e) in absurd (omega arith)
-      go (unreadable at) e = e ∙ ap unreadable (sym (ap placeIn (sym is ∙ read .resultIs ∙ ap scannedFor e)))
+      go : (reading : Reading) → readingOf list ≡ reading → lineFor (answerAt (known .scan)) (wordsAt (known .scan) (known .words)) bytes ≡ textFor (readingOf list) bytes
+      go (numbers claims) e =
+          let words : wordsAt (known .scan) (known .words) ≡ take wordsKept claims ++ drop (length claims) old =
+          kept claims e ∙ ap (λ (k : ℕ). take k claims ++ drop (length claims) old) long in
+          let few : min (length claims) wordsKept ≡ length (take wordsKept claims) = omega (arith, length-take wordsKept claims) in
+          rw (is, e, words, few)
+          (ap claimedLine
+          (ap (claimedOf bytes) (take-append-seam (take wordsKept claims) (drop (length claims) old)) ∙ same-answer bytes claims))
+      go (unreadable place) e = rw (is, e)
 
-  readable : (count : ℕ) → scanned ≡ Numbers count → (claims : List ℕ) × (readingOf list ≡ numbers claims)
-  readable count is = go (readingOf list) refl
+  line-stuck : stuck (known .scan .state) ≡ true → lineAfter known bytes ≡ checkText list bytes
+  unfolding lineAfter checkText
+  line-stuck h = go (readingOf list) refl
     where
-      go : (reading : Reading) → readingOf list ≡ reading → (claims : List ℕ) × (readingOf list ≡ numbers claims)
-      go (numbers claims) e = (claims, e)
-      go (unreadable at) e = let z : _≡_ {A = ℕ} 0 1 = cc (is, read .resultIs, ap scannedFor e) in absurd (omega arith)
+      go : (reading : Reading) → readingOf list ≡ reading → lineFor (answerAt (known .scan)) (wordsAt (known .scan) (known .words)) bytes ≡ textFor (readingOf list) bytes
+      go (numbers claims) e =
+          let z : _≡_ {A = ℕ} 0 1 = cc (is, ap scannedFor e, stuck-told (known .scan .state) _ h .1) in absurd (omega arith)
+      go (unreadable place) e = rw (is, e)
 
-  pub list-unreadable : (bytes : List ℕ) (place : TextPlace) → scanned ≡ Unreadable place → unreadableLine (place .0) ≡ textFor (readingOf list) bytes
-  list-unreadable bytes place is = sym (ap (λ (r : Reading). textFor r bytes) (unreadable-at place is))
-
--- a list that is not too long is read whole
-pub short-list : (list bytes : List ℕ) → length list ≤ mostText → textFor (readingOf list) bytes ≡ checkText list bytes
-unfolding checkText
-short-list list bytes h = rw (le-leb (length list) mostText h) refl
-
--- and a longer one as far as it may go
-module _ (list bytes old new : List ℕ) (h : mostText < length list) (scanned : Scanned) (read : Read (take mostText list) old scanned new) where
-  pub long-list : (count : ℕ) → scanned ≡ Numbers count → unreadableLine mostText ≡ checkText list bytes
-  unfolding checkText
-  long-list count is =
-      let found = readable (take mostText list) old new scanned read count is in
-      rw (lt-leb (length list) mostText h, found .1) refl
-
-  pub long-unreadable : (place : TextPlace) → scanned ≡ Unreadable place → unreadableLine (place .0) ≡ checkText list bytes
-  unfolding checkText
-  long-unreadable place is = rw (lt-leb (length list) mostText h, unreadable-at (take mostText list) old new scanned read place is) refl
+pub anyPieces : AnyPieces
+anyPieces =
+    record {
+      whole = λ old bytes pieces long.
+          line-read (joined pieces) bytes (allThrough old pieces) (piecesRight .answers old pieces) old long (piecesRight .keeps old pieces);
+      early = λ old bytes pieces more h.
+          line-stuck (joined (pieces ++ more)) bytes (allThrough old pieces) (piecesRight .early old pieces more h) h;
+    }

@@ -1,3 +1,4 @@
 pub mod Text
+pub mod Pieces
 pub mod Longest
 pub mod Samples

@@ -2,9 +2,6 @@
 -- Assumes nothing.
 use Prim.Native.Nat.{ℕ}
 use mathlib.Core.List.{List}
-use lib.Dec.{leb}
-use lib.ListN.{length, take}
-use Rattle.model.specs.Choice.{pick}
 use Rattle.claims.specs.declared.Claimed.{Claimed}
 use Rattle.claims.specs.declared.Claimed.the-variants.{Refused, WrongCount, Pass, Fails}
 use Rattle.claims.specs.Claims.{claimedOf}
@@ -27,16 +24,5 @@ abbrev pub textFor : Reading → List ℕ → List ℕ
 textFor (numbers claims) bytes = claimedLine (claimedOf bytes claims)
 textFor (unreadable place) bytes = unreadableLine place
 
--- The longest text of a list that is read, in bytes. Of a longer one the next byte can't be read, unless something before it can't.
-abbrev pub mostText : ℕ
-mostText = 65535
-
-abbrev pub cutOff : Reading → Reading
-cutOff (numbers claims) = unreadable mostText
-cutOff (unreadable place) = unreadable place
-
-abbrev pub listOf : List ℕ → Reading
-listOf list = pick (leb (length list) mostText) (readingOf list) (cutOff (readingOf (take mostText list)))
-
 unfoldable pub checkText : List ℕ → List ℕ → List ℕ
-checkText list bytes = textFor (listOf list) bytes
+checkText list bytes = textFor (readingOf list) bytes

@@ -1,50 +1,37 @@
 // The text of a list of claims and the bytes of a table in, one line of text out (SPECIFICATION 10.2; document 02, L7).
 ghost use Prim.Native.Nat.{min};
 ghost use mathlib.Core.Path.{_≡_};
+ghost use lib.ListN.{length};
 ghost use Rattle.printing.specs.Appended.{Appended};
-ghost use Rattle.scanning.specs.Reading.{readingOf};
-ghost use Rattle.checking.specs.Text.{claimedLine, unreadableLine, textFor, checkText};
+ghost use Rattle.scanning.specs.Pieces.{Within, wordsAt, gone};
+ghost use Rattle.checking.specs.Text.{claimedLine, unreadableLine};
+ghost use Rattle.checking.specs.Pieces.{wordsKept, lineAfter};
 use claims::Claimed;
 use claims::check_claims;
 use printing::append;
 use printing::line_with_number;
 use printing::verdict_line;
 use response::Verdict;
+use scanning::Scan;
 use scanning::Scanned;
 use scanning::TextPlace;
-use scanning::numbers;
+use scanning::finish;
 
 // Bytes enough for any line, and for the longest no more than enough: `longest` of specs/Longest.antt.
-pub const LONGEST: usize = 20;
+pub const LONGEST: usize = 35;
 
-// The longest text of a list that is read: `mostText` of specs/Text.antt.
-const MOST_TEXT: usize = 65535;
+// One word more than any table has tasks, so that a longer list is seen to be too long: `wordsKept` of specs/Pieces.antt.
+pub const WORDS: usize = 33;
 
-// One word more than any table has tasks, so that a longer list is seen to be too long.
-const WORDS: usize = 33;
-
-// Reads the claims, checks them against the table, and puts the line that says the answer at the buffer's beginning; answers where it ends.
-pub fn check_text(list: &[u8], table: &[u8], out: &mut [u8]) -> usize
-    ensures { λ r. ⌜ Appended (now (out .entry)) 0 (checkText (now (list .entry)) (now (table .entry))) r (now (out .exit)) ⌝ }
+// The line for a list whose text is gone through, with its numbers kept in the words, and for a table. It is put at the buffer's beginning; the
+// answer is where it ends.
+pub fn check_list(scan: Scan, words: &mut [u32], table: &[u8], out: &mut [u8]) -> usize
+    requires { ⌜ Within scan 0 ⌝ }
+    requires { ⌜ length (now words) ≡ wordsKept ⌝ }
+    ensures { λ _. ⌜ now (words .exit) ≡ wordsAt scan (now (words .entry)) ⌝ }
+    ensures { λ r. ⌜ Appended (now (out .entry)) 0 (lineAfter (gone scan (now (words .entry))) (now (table .entry))) r (now (out .exit)) ⌝ }
 {
-    if list.len() <= MOST_TEXT {
-        return check_list(list, table, out);
-    }
-    // the list goes on behind what is read of it
-    let mut none = [0u32; 0];
-    let scanned = numbers(&list[..MOST_TEXT], &mut none);
-    match scanned {
-        Scanned::Numbers(_) => unreadable(out, TextPlace(MOST_TEXT)),
-        Scanned::Unreadable(place) => unreadable(out, place),
-    }
-}
-
-// The same for a list of any length.
-fn check_list(list: &[u8], table: &[u8], out: &mut [u8]) -> usize
-    ensures { λ r. ⌜ Appended (now (out .entry)) 0 (textFor (readingOf (now (list .entry))) (now (table .entry))) r (now (out .exit)) ⌝ }
-{
-    let mut words = [0u32; WORDS];
-    let scanned = numbers(list, &mut words);
+    let scanned = finish(scan, words);
     match scanned {
         Scanned::Numbers(count) => {
             let claimed = check_claims(table, &words[..fewer(count, WORDS)]);

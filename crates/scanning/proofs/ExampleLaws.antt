@@ -2,8 +2,9 @@
 -- Assumes nothing.
 use mathlib.Core.Path.{refl}
 use Rattle.scanning.specs.Reading.{isDigit, isSeparator, outside}
+use Rattle.scanning.specs.Pieces.{joined}
 use Rattle.scanning.specs.Examples.{examples, ExamplesRight}
 
 pub examplesRight : ExamplesRight
-unfolding isDigit isSeparator outside examples
+unfolding isDigit isSeparator outside joined examples
 examplesRight = refl

@@ -2,17 +2,34 @@
 -- Assumes nothing.
 use Prim.Native.Nat.{ℕ}
 use native.Mathlib.Omega.{arith}
-use mathlib.Core.Path.{_≡_, refl, sym, _∙_}
+use mathlib.Core.Path.{_≡_, refl, sym, _∙_, ap}
 use mathlib.Core.List.{List}
 use Rattle.scanning.specs.declared.TextPlace.{TextPlace}
 use Rattle.scanning.specs.declared.Scanned.{Scanned}
 use Rattle.scanning.specs.declared.Scanned.the-variants.{Numbers, Unreadable}
+use Rattle.scanning.specs.declared.Scan.{Scan}
 use Rattle.scanning.specs.Reading.{Reading, numbers, unreadable, readingOf}
 use Rattle.scanning.specs.Read.{scannedFor, wordsAfter, Read, NoSecondRead}
-use Rattle.scanning.specs.Steps.{Passed}
+use Rattle.scanning.specs.Pieces.{start, scanAfter, keptAfter, More, answerAt, wordsAt, Ended, Passed}
+use Rattle.scanning.proofs.PieceLaws.{answer-all, keep-all}
 
 pub noSecondRead : NoSecondRead
 noSecondRead text old result other new another a b = (a .resultIs ∙ sym (b .resultIs), a .wordsAre ∙ sym (b .wordsAre))
+
+pub passed : {text old kept new : List ℕ} {first scan : Scan} {result : Scanned} → first ≡ start → More first text old scan kept →
+    Ended scan kept result new → Passed text old result new
+passed {text} {old} {kept} {new} {first} {scan} e m f =
+    let here : scan ≡ scanAfter start text = m .scanIs ∙ ap (λ (s : Scan). scanAfter s text) e in
+    record {
+      resultIs = f .resultIs ∙ ap answerAt here;
+      wordsAre =
+          f .wordsAre
+          ∙ ap (λ (s : Scan). wordsAt s kept) here
+          ∙ ap (wordsAt (scanAfter start text)) (m .wordsAre ∙ ap (λ (s : Scan). keptAfter s text old) e);
+    }
+
+pass-result : {text old new : List ℕ} {result : Scanned} → Passed text old result new → result ≡ scannedFor (readingOf text)
+pass-result {text} p = p .resultIs ∙ answer-all text
 
 -- the first pass tells a text that can't be read
 unchanged : (reading : Reading) (place : TextPlace) (old : List ℕ) → Unreadable place ≡ scannedFor reading → old ≡ wordsAfter reading old
@@ -23,8 +40,8 @@ pub read-fault : {text none left old : List ℕ} {result : Scanned} {place : Tex
     result ≡ Unreadable place → Read text old (Unreadable place) old
 read-fault {text} {none} {left} {old} {result} {place} p e =
     record {
-      resultIs = sym e ∙ p .resultIs;
-      wordsAre = unchanged (readingOf text) place old (sym e ∙ p .resultIs);
+      resultIs = sym e ∙ pass-result p;
+      wordsAre = unchanged (readingOf text) place old (sym e ∙ pass-result p);
     }
 
 -- and after one that can be read the second pass leaves its numbers
@@ -37,6 +54,6 @@ pub read-all : {text none left old new : List ℕ} {first second : Scanned} {cou
     first ≡ Numbers count → Passed text old second new → Read text old second new
 read-all {text} {none} {left} {old} {new} {first} {second} {count} p e q =
     record {
-      resultIs = q .resultIs;
-      wordsAre = filled (readingOf text) count old new (sym e ∙ p .resultIs) (q .wordsAre);
+      resultIs = pass-result q;
+      wordsAre = filled (readingOf text) count old new (sym e ∙ pass-result p) (λ values r. q .wordsAre ∙ keep-all text old values r);
     }

@@ -1,24 +1,21 @@
 -- The code goes through a text as it is read: the state before a byte, the numbers found so far, and the rest of the text give the reading.
 -- Assumes nothing.
-use Prim.Native.Nat.{ℕ, suc, _+_, _-_, _*_, _≤_, _<_}
+use Prim.Native.Nat.{ℕ, suc, _+_, _-_, _*_, _≤_}
 use native.Mathlib.Omega.{arith}
-use native.Mathlib.Numerals.{add-one}
-use mathlib.Core.Path.{_≡_, refl, sym, _∙_, ap}
+use mathlib.Core.Path.{_≡_, refl, _∙_, ap}
 use mathlib.Core.Logic.{inl, inr}
 use mathlib.Core.List.{List, [], _∷_, _++_}
 use lib.Dec.{leb}
-use lib.ListN.{length, drop, getD, length-append, drop-of-length-le}
-use lib.Seq.{sets, drop-cons, length-sets}
+use lib.ListN.{length}
 use Rattle.model.proofs.Tests.{bool?}
 use Rattle.scanning.specs.declared.TextPlace.{TextPlace}
-use Rattle.scanning.specs.declared.Scanned.{Scanned}
 use Rattle.scanning.specs.declared.State.{State}
 use Rattle.scanning.specs.declared.State.the-variants.{Outside, Inside, Stuck}
-use Rattle.scanning.specs.Reading.{Reading, numbers, unreadable, largest, isDigit, isSeparator, prepend, outside, inside, readingOf}
+use Rattle.scanning.specs.Reading.{Reading, numbers, unreadable, largest, isDigit, isSeparator, prepend, outside, inside}
 use Rattle.scanning.specs.Read.{placeAt, scannedFor}
-use Rattle.scanning.specs.Steps.{withValue, afterOf, endedBy, answerOf, Kept, Passed}
+use Rattle.scanning.specs.Steps.{withValue, afterOf, endedBy}
+use Rattle.scanning.specs.Pieces.{answerOf}
 use Rattle.scanning.proofs.ByteLaws.{digit-separates-not}
-use Rattle.scanning.proofs.WordLaws.{sets-more, sets-all}
 
 -- numbers before what the rest is read as
 unfoldable pub prependAll : List ℕ → Reading → Reading
@@ -78,13 +75,13 @@ onward-step (Inside start value) at byte rest =
 onward-step (Stuck place) at byte rest = refl
 
 -- what the answer then is
-answer-is : (state : State) (found : List ℕ) → answerOf state (length found) ≡ scannedFor (prependAll found (endOf state))
+pub answer-is : (state : State) (found : List ℕ) → answerOf state (length found) ≡ scannedFor (prependAll found (endOf state))
 answer-is Outside found = rw (prepend-none found)
 answer-is (Inside start value) found = rw (prepend-none found)
 answer-is (Stuck place) found = rw (prepend-stuck found (place .0))
 
 -- and the numbers that a text that can be read is read as
-found-all : (state : State) (found values : List ℕ) → prependAll found (endOf state) ≡ numbers values → values ≡ found
+pub found-all : (state : State) (found values : List ℕ) → prependAll found (endOf state) ≡ numbers values → values ≡ found
 found-all Outside found values p = let e : numbers found ≡ numbers values = rw (prepend-none found) at p in cc
 found-all (Inside start value) found values p = let e : numbers found ≡ numbers values = rw (prepend-none found) at p in cc
 found-all (Stuck place) found values p =
@@ -93,7 +90,7 @@ found-all (Stuck place) found values p =
     absurd (omega arith)
 
 -- a byte ends at most the one number that the text's end would end
-ended-few : (state : State) (byte : ℕ) → length (endedBy state byte) ≤ length (endedBy state 32)
+pub ended-few : (state : State) (byte : ℕ) → length (endedBy state byte) ≤ length (endedBy state 32)
 unfolding isSeparator
 ended-few Outside byte = omega arith
 ended-few (Inside start value) byte = elim (bool? (isSeparator byte)) [ inl p ↦ rw p (omega arith) | inr p ↦ rw p (omega arith) ]
@@ -105,7 +102,7 @@ ended-one Outside = omega arith
 ended-one (Inside start value) = omega arith
 ended-one (Stuck place) = omega arith
 
-ended-then : (state : State) (at : TextPlace) (byte : ℕ) →
+pub ended-then : (state : State) (at : TextPlace) (byte : ℕ) →
     length (endedBy state byte) + length (endedBy (afterOf state at byte) 32) ≤ length (endedBy state 32) + 1
 unfolding isSeparator
 ended-then Outside at byte = omega (arith, ended-one (afterOf Outside at byte))
@@ -118,73 +115,3 @@ pub value-kept : {result : State} {start : TextPlace} {value : ℕ} (place : Tex
     start .0 ≡ place .0 → value ≡ same → result ≡ withValue place same
 value-kept {result} {start} {value} place same e p q =
     e ∙ ap (λ (n : ℕ). withValue (placeAt n) value) p ∙ ap (withValue place) q
-
--- The loop's invariant: the numbers found so far, and that a number that is not ended yet still can be counted.
-pub record Going (text old : List ℕ) (at : ℕ) (state : State) (count : ℕ) (words : List ℕ) : Type 0 where
-  pub found : List ℕ
-  pub reading : readingOf text ≡ prependAll found (onward state at (drop at text))
-  pub counted : count ≡ length found
-  pub few : count + length (endedBy state 32) ≤ at
-  pub most : at ≤ length text
-  pub kept : words ≡ sets old 0 found
-
-pub going-none : (text old : List ℕ) → Going text old 0 Outside 0 old
-unfolding onward prependAll
-going-none text old =
-    record { found = []; reading = refl; counted = refl; few = omega arith; most = omega arith; kept = refl }
-
-module _ {text old : List ℕ} {at : ℕ} {state : State} {count : ℕ} {words : List ℕ} (g : Going text old at state count words) where
-  pub going-fits : (byte : ℕ) → count + length (endedBy state byte) ≤ at
-  going-fits byte = omega (arith, g .few, ended-few state byte)
-
-  pub going-long : length words ≡ length old
-  going-long = ap length (g .kept) ∙ length-sets old 0 (g .found)
-
-  kept-more : {more : List ℕ} {result : ℕ} {new : List ℕ} → Kept more words count result new → new ≡ sets old 0 (g .found ++ more)
-  kept-more {more} k =
-      let e : count ≡ 0 + length (g .found) = omega (arith, g .counted) in
-      k .wordsAre
-      ∙ ap (λ (xs : List ℕ). sets xs count more) (g .kept)
-      ∙ ap (λ (n : ℕ). sets (sets old 0 (g .found)) n more) e
-      ∙ sets-more old 0 (g .found) more
-
-  pub going-more : {result : ℕ} {new : List ℕ} {next : State} → at < length text → Kept (endedBy state (getD text at 0)) words count result new →
-      next ≡ afterOf state (placeAt at) (getD text at 0) → Going text old (at + 1) next result new
-  going-more {result} {new} {next} h k e =
-      rw (e, add-one at)
-      (record {
-        found = g .found ++ endedBy state (getD text at 0);
-        reading =
-            g .reading
-            ∙ ap (λ (rest : List ℕ). prependAll (g .found) (onward state at rest)) (drop-cons text at 0 h)
-            ∙ ap (prependAll (g .found)) (onward-step state at (getD text at 0) (drop (suc at) text))
-            ∙ sym (prepend-append (g .found) (endedBy state (getD text at 0)) (onward (afterOf state (placeAt at) (getD text at 0)) (suc at) (drop (suc at) text)));
-        counted = omega (arith, k .resultIs, g .counted, length-append (g .found) (endedBy state (getD text at 0)));
-        few = omega (arith, k .resultIs, g .few, ended-then state (placeAt at) (getD text at 0));
-        most = omega arith;
-        kept = kept-more k;
-      })
-
-  pub going-all : {end : ℕ} {new : List ℕ} {result : Scanned} → length text ≤ at → Kept (endedBy state 32) words count end new →
-      result ≡ answerOf state end → Passed text old result new
-  going-all {end} {new} {result} h k e =
-      record {
-        resultIs = e ∙ ap (answerOf state) counted ∙ answer-is state all ∙ ap scannedFor (sym read);
-        wordsAre = λ values p.
-            kept-more k
-            ∙ ap (sets old 0) (sym (found-all state all values (sym read ∙ p)))
-            ∙ sets-all old values;
-      }
-    where
-      all : List ℕ
-      all = g .found ++ endedBy state 32
-
-      counted : end ≡ length all
-      counted = omega (arith, k .resultIs, g .counted, length-append (g .found) (endedBy state 32))
-
-      read : readingOf text ≡ prependAll all (endOf state)
-      read =
-          g .reading
-          ∙ ap (λ (rest : List ℕ). prependAll (g .found) (onward state at rest)) (drop-of-length-le text h)
-          ∙ ap (prependAll (g .found)) (onward-end state at)
-          ∙ sym (prepend-append (g .found) (endedBy state 32) (endOf state))

@@ -1,5 +1,5 @@
 -- How the code goes through a text: the state before each byte, and what one byte does to it. That this is the reading of
--- specs/Reading.antt is proved in proofs/StepLaws.antt.
+-- specs/Reading.antt is `PiecesRight` of specs/Pieces.antt.
 -- Assumes nothing.
 use Prim.Native.Nat.{ℕ, _+_, _-_, _*_}
 use mathlib.Core.Path.{_≡_}
@@ -10,12 +10,9 @@ use lib.ListN.{length}
 use lib.Seq.{sets}
 use Rattle.model.specs.Choice.{pick}
 use Rattle.scanning.specs.declared.TextPlace.{TextPlace}
-use Rattle.scanning.specs.declared.Scanned.{Scanned}
-use Rattle.scanning.specs.declared.Scanned.the-variants.{Numbers, Unreadable}
 use Rattle.scanning.specs.declared.State.{State}
 use Rattle.scanning.specs.declared.State.the-variants.{Outside, Inside, Stuck}
-use Rattle.scanning.specs.Reading.{numbers, largest, isDigit, isSeparator, readingOf}
-use Rattle.scanning.specs.Read.{scannedFor, wordsAfter}
+use Rattle.scanning.specs.Reading.{largest, isDigit, isSeparator}
 
 -- a number of this value, unless it is too large
 unfoldable pub withValue : TextPlace → ℕ → State
@@ -47,14 +44,3 @@ endedBy (Stuck place) byte = []
 pub record Kept (more old : List ℕ) (count result : ℕ) (new : List ℕ) : Type 0 where
   pub resultIs : result ≡ count + length more
   pub wordsAre : new ≡ sets old count more
-
--- what the text holds, once it is gone through
-abbrev pub answerOf : State → ℕ → Scanned
-answerOf Outside count = Numbers count
-answerOf (Inside start value) count = Numbers count
-answerOf (Stuck place) count = Unreadable place
-
--- the words after a text that can be read; after one that can't be read nothing is said of them
-pub record Passed (text old : List ℕ) (result : Scanned) (new : List ℕ) : Type 0 where
-  pub resultIs : result ≡ scannedFor (readingOf text)
-  pub wordsAre : (values : List ℕ) → readingOf text ≡ numbers values → new ≡ wordsAfter (numbers values) old

@@ -1,10 +1,11 @@
-// Whole decimal numbers, read from a text: the mirror of `printing`.
+// Whole decimal numbers, read from a text: the mirror of `printing`. The text may come in pieces, so that no buffer has to hold all of it.
 ghost use Prim.Native.Nat.{_+_, _<_};
 ghost use mathlib.Core.Path.{_≡_};
 ghost use lib.ListN.{length};
 ghost use Rattle.scanning.specs.Reading.{isDigit, isSeparator};
+ghost use Rattle.scanning.specs.Steps.{afterOutside, afterInside, withValue, afterOf, endedBy, oneIf, Kept};
 ghost use Rattle.scanning.specs.Read.{Read};
-ghost use Rattle.scanning.specs.Steps.{afterOutside, afterInside, withValue, afterOf, endedBy, answerOf, oneIf, Kept, Passed};
+ghost use Rattle.scanning.specs.Pieces.{start, More, Within, stuck, Ended, Passed, answerOf};
 
 // The largest number that can be read.
 const LARGEST: u64 = 4294967295;
@@ -19,10 +20,17 @@ pub enum Scanned {
 }
 
 // What stands before the next byte: no number, one that began at a place and has a value so far, or something that can't be read.
-enum State {
+pub enum State {
     Outside,
     Inside(TextPlace, u32),
     Stuck(TextPlace),
+}
+
+// How far a text is gone through: what stands before the next byte, that byte's place, and how many numbers ended before it.
+pub struct Scan {
+    pub state: State,
+    pub at: TextPlace,
+    pub count: usize,
 }
 
 // Reads the numbers of a text into lent words, from the first word on. Numbers that have no room are counted and not kept; later words
@@ -38,18 +46,64 @@ pub fn numbers(text: &[u8], words: &mut [u32]) -> Scanned
     }
 }
 
-// Goes through the text once, and keeps each number in the words where it ends. The text's end ends a number as a separator does.
+// Goes through a whole text, as one piece.
 fn pass(text: &[u8], words: &mut [u32]) -> Scanned
     ensures { λ r. ⌜ Passed (now (text .entry)) (now (words .entry)) r (now (words .exit)) ⌝ }
 {
-    let mut state = State::Outside;
-    let mut count = 0;
-    for at in 0..text.len() {
-        let byte = text[at];
-        count = keep(state, byte, words, count);
-        state = after(state, TextPlace(at), byte);
+    let scan = go_on(begin(), text, words);
+    finish(scan, words)
+}
+
+// Before the first piece.
+pub fn begin() -> Scan
+    ensures { λ r. ⌜ r ≡ start ⌝ }
+{
+    Scan {
+        state: State::Outside,
+        at: TextPlace(0),
+        count: 0,
     }
-    count = keep(state, b' ', words, count);
+}
+
+// Goes through one piece more, and keeps each number in the words where it ends. Numbers that have no room are counted and not kept.
+pub fn go_on(scan: Scan, piece: &[u8], words: &mut [u32]) -> Scan
+    requires { ⌜ Within scan (length (now piece)) ⌝ }
+    ensures { λ r. ⌜ More scan (now (piece .entry)) (now (words .entry)) r (now (words .exit)) ⌝ }
+{
+    let from = scan.at.0;
+    let mut state = scan.state;
+    let mut count = scan.count;
+    for i in 0..piece.len() {
+        let byte = piece[i];
+        count = keep(state, byte, words, count);
+        state = after(state, TextPlace(from + i), byte);
+    }
+    Scan {
+        state: state,
+        at: TextPlace(from + piece.len()),
+        count: count,
+    }
+}
+
+// Has something been found that can't be read? Whatever comes behind it makes no difference then.
+pub fn is_stuck(scan: Scan) -> bool
+    ensures { λ r. ⌜ r ≡ stuck (scan .state) ⌝ }
+{
+    let state = scan.state;
+    match state {
+        State::Outside => false,
+        State::Inside(_, _) => false,
+        State::Stuck(_) => true,
+    }
+}
+
+// Behind the last piece: the text's end ends a number as a separator does.
+pub fn finish(scan: Scan, words: &mut [u32]) -> Scanned
+    requires { ⌜ Within scan 0 ⌝ }
+    ensures { λ r. ⌜ Ended scan (now (words .entry)) r (now (words .exit)) ⌝ }
+{
+    let state = scan.state;
+    let count = keep(state, b' ', words, scan.count);
     answer(state, count)
 }
 

@@ -2,20 +2,21 @@
 -- Assumes nothing.
 use Rattle.checking.proofs.LineLaws.{lineWhole}
 use borrow.Author.Needs.{needs}
+use borrow.Author.Needs.{needs}
 use Rattle.checker.proofs.check.Statement.{statement}
 use Rattle.checker.proofs.check.Tie as tie
 
--- src/main.rt:49:5
-check-text-requires : tie.Need-check-text-requires
-check-text-requires c κs = search needs
+check-list-requires : tie.Need-check-list-requires
+check-list-requires c κs = search needs
 
--- src/main.rt:45:1
 same-length : tie.Need-same-length
 same-length c = search needs
 
--- src/main.rt:45:1
+same-length-2 : tie.Need-same-length-2
+same-length-2 c = search needs
+
 returns : tie.Need-returns
-returns c = lineWhole _ _ _ _ _ (c .before .before .before .before .before .before .before .pre) (c .before .before .check-text .ensures)
+returns c = (lineWhole _ _ _ _ _ _ (c .before .before .before .before .before .before .before .before .before .before .pre .0) (c .before .before .before .before .before .before .before .before .before .before .pre .1 .1) (c .before .before .before .before .check-list .ensures .1), c .before .before .before .before .check-list .ensures .0)
 
 pub check-spec : {M : Type 1} → statement M
-check-spec = tie.close (tie.spec check-text-requires same-length returns)
+check-spec = tie.close (tie.spec check-list-requires same-length same-length-2 returns)

@@ -2,46 +2,40 @@
 -- Assumes nothing.
 use Rattle.printing.proofs.LongestLaws.{whole-within, whole-part}
 use borrow.Author.Needs.{needs}
+use borrow.Author.Needs.{needs}
 use Rattle.checker.proofs.check_input.Statement.{statement}
 use Rattle.checker.proofs.check_input.Tie as tie
 
--- src/main.rt:38:46
 slice-aggregate-read-full : tie.Need-slice-aggregate-read-full
 slice-aggregate-read-full c = search needs
 
--- src/main.rt:38:9
 read-full-requires : tie.Need-read-full-requires
 read-full-requires c κs = search needs
 
--- src/main.rt:40:27
 array-share-prefix-input : tie.Need-array-share-prefix-input
 array-share-prefix-input c = search needs
 
--- src/main.rt:40:27
 slice-aggregate-check : tie.Need-slice-aggregate-check
 slice-aggregate-check c = search needs
 
--- src/main.rt:40:45
 slice-aggregate-check-2 : tie.Need-slice-aggregate-check-2
 slice-aggregate-check-2 c = search needs
 
--- src/main.rt:40:9
 check-requires : tie.Need-check-requires
 check-requires c κs = search needs
 
--- src/main.rt:41:34
 array-share-prefix-out : tie.Need-array-share-prefix-out
-array-share-prefix-out c = whole-within (c .before .check .ensures)
+array-share-prefix-out c = whole-within (c .before .before .before .check .ensures .0)
 
--- src/main.rt:41:34
 slice-aggregate-write-all : tie.Need-slice-aggregate-write-all
-slice-aggregate-write-all c = whole-part (c .before .before .check .ensures)
+slice-aggregate-write-all c = whole-part (c .before .before .before .before .check .ensures .0)
 
--- src/main.rt:41:5
 write-all-requires : tie.Need-write-all-requires
 write-all-requires c κs = search needs
 
--- src/main.rt:35:1
+same-length : tie.Need-same-length
+same-length c = search needs
+
 returns : tie.Need-returns
 returns c = search needs
 
@@ -58,4 +52,5 @@ check-input-spec =
     array-share-prefix-out
     slice-aggregate-write-all
     write-all-requires
+    same-length
     returns)
