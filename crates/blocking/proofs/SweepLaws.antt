@@ -4,22 +4,21 @@ use Prim.Native.Nat.{ℕ, zero, suc, _+_, _-_, _≤_, _<_, max}
 use native.Mathlib.Omega.{arith}
 use native.Mathlib.Decide.{ℕ-discrete, decLe, decLt}
 use native.Mathlib.Nat.{le-refl}
-use native.Mathlib.Numerals.{add-one}
 use mathlib.Core.Path.{_≡_, refl, sym, _∙_, ap, subst}
-use mathlib.Core.Bool.{Bool, true, false}
+use mathlib.Core.Bool.{Bool, false}
 use mathlib.Core.List.{List}
-use mathlib.Core.Logic.{_⊎_, inl, inr}
+use mathlib.Core.Logic.{inl, inr}
 use lib.Dec.{eqb, leb, ltb}
 use lib.ListN.{length, getD, set, length-set, replicate, length-replicate, getD-replicate}
 use lib.Seq.{getD-set-same, getD-set-other}
 use borrow.Author.Tests.{eq-eqb, ne-eqb, lt-ltb, le-ltb, le-leb, lt-leb}
-use Rattle.model.specs.Choice.{pick, both, on}
+use Rattle.model.specs.Choice.{both, on}
 use Rattle.model.specs.Lists.{total, largestTo, filled, wordOf}
 use Rattle.model.proofs.Lists.{largest-more, largest-none, largest-high, largest-low, largest-same}
 use Rattle.model.proofs.Totals.{total-none, total-more, total-high}
-use Rattle.model.proofs.Tests.{ltb?, leb?, eqb?, on-high, both-fail}
+use Rattle.model.proofs.Tests.{leb?, eqb?, on-high, both-fail}
 use Rattle.model.proofs.Filling.{is-filled}
-use Rattle.blocking.specs.Slices.{ownerAt, claimAt, ceilingIn, topAt, sectionAt, blockingAt, RowsHeld}
+use Rattle.blocking.specs.Slices.{ownerAt, claimAt, ceilingIn, sectionAt, blockingAt, RowsHeld}
 use Rattle.blocking.specs.Sweep.{usesAt, rowsOf, keptWith, SemaphoresHeld, Zeros}
 
 -- the largest, where one of them has become larger
@@ -135,17 +134,6 @@ module _ (kept : List ℕ) (long : length kept ≡ 17) (semaphore : ℕ) (low : 
         (largest-raised (wordOf (set kept semaphore v)) (wordOf kept) 17 semaphore section low
         (getD-set-same kept semaphore v 0 (omega arith) ∙ is)
         (λ k l other. getD-set-other kept semaphore k v 0 other))
-
-  -- a semaphore that had less than the largest is dropped
-  pub most-stays : (most : ℕ) → most ≡ largestTo (wordOf kept) 17 → getD kept semaphore 0 < most → most ≡ largestTo (wordOf (set kept semaphore 0)) 17
-  most-stays most before h =
-      omega (
-        arith,
-        before,
-        largest-raised (wordOf kept) (wordOf (set kept semaphore 0)) 17 semaphore (getD kept semaphore 0) low
-            (omega (arith, getD-set-same kept semaphore 0 0 (omega arith)))
-            (λ k l other. sym (getD-set-other kept semaphore k 0 0 other)),
-      )
 
 -- Rows `left` to m − 1 have been taken in.
 module _ (semaphores longest : List ℕ) (m : ℕ) where
@@ -346,7 +334,7 @@ module _ (priorities places semaphores longest : List ℕ) (n m : ℕ) (r : Rows
       j k h l
 
   pub semaphores-held : SemaphoresHeld semaphores m
-  semaphores-held = record { long = r .semaphoresLong; low = r .semaphoresLow }
+  semaphores-held = record { few = r .few; long = r .semaphoresLong; low = r .semaphoresLow }
 
   -- where no row is left, no task that waits is blocked
   none-blocks : (i : ℕ) → ((k : ℕ) → k < m → (j : ℕ) → j < i → ownerAt priorities places k < getD priorities j 0) → (j : ℕ) → j < i →
@@ -363,12 +351,6 @@ module _ (priorities places semaphores longest : List ℕ) (n m : ℕ) (r : Rows
       )
 
   module _ (old : List ℕ) (zeros : Zeros old n) where
-    -- a table without rows
-    pub no-rows : m ≡ 0 → old ≡ filled (blockingAt priorities places semaphores longest m) n old
-    no-rows none =
-        is-filled (blockingAt priorities places semaphores longest m) n old old (zeros .long) refl
-        (λ j h. zeros .each j h ∙ sym (none-blocks n (λ k l. absurd (omega arith)) j h)) (λ j h. refl)
-
     pub swept-none : (rows : List ℕ) → length rows ≡ 17 → ((s : ℕ) → s < 17 → getD rows s 0 ≡ rowsOf semaphores s m) →
         Swept priorities places semaphores longest n m old old rows (replicate 17 0) 0 m n
     swept-none rows rowsLong rowsLeft =

@@ -32,9 +32,10 @@ unfoldable pub blockingAt : List ℕ → List ℕ → List ℕ → List ℕ → 
 blockingAt priorities places semaphores longest count i =
     largestTo (sectionAt priorities places semaphores longest count (getD priorities i 0)) count
 
--- The slices hold n priorities that do not rise, and `count` rows that do not fall by place, each of one of the n tasks and of semaphore 16
+-- The slices hold n priorities that do not rise, and `count` rows, 255 at most, that do not fall by place, each of one of the n tasks and of semaphore 16
 -- at most.
 pub record RowsHeld (priorities places semaphores longest : List ℕ) (n count : ℕ) : Type 0 where
+  pub few : count ≤ 255
   pub prioritiesLong : n ≤ length priorities
   pub placesLong : count ≤ length places
   pub semaphoresLong : count ≤ length semaphores

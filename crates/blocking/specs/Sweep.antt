@@ -20,8 +20,9 @@ rowsOf semaphores s count = total (usesAt semaphores s) count
 abbrev pub keptWith : ℕ → ℕ → ℕ → ℕ
 keptWith rest section before = pick (eqb rest 0) 0 (max before section)
 
--- the slice holds the semaphores of `count` rows, 16 at most
+-- the slice holds the semaphores of `count` rows, 255 at most, and none is above 16
 pub record SemaphoresHeld (semaphores : List ℕ) (count : ℕ) : Type 0 where
+  pub few : count ≤ 255
   pub long : count ≤ length semaphores
   pub low : (k : ℕ) → k < count → getD semaphores k 0 ≤ 16
 

@@ -1,21 +1,20 @@
 // Blocking by priority ceiling, of all tasks in one sweep from the last row and the last task to the first: each row and each task is looked
 // at once. It rests on the order of an accepted table: priorities do not rise, and rows do not fall by place.
 ghost use mathlib.Core.Path.{_≡_};
-ghost use Prim.Native.Nat.{ℕ, _≤_, _<_};
+ghost use Prim.Native.Nat.{ℕ, _<_};
 ghost use lib.ListN.{length, getD, set};
 ghost use Rattle.model.specs.Lists.{filled, largestTo, wordOf};
 ghost use Rattle.blocking.specs.Slices.{blockingAt, RowsHeld};
 ghost use Rattle.blocking.specs.Sweep.{rowsOf, keptWith, SemaphoresHeld, Zeros};
-use model::Priority;
 use model::Ticks;
 use model::larger;
 
 // How many rows name each semaphore.
-fn rows_of(semaphores: &[u8], count: usize) -> [usize; 17]
+fn rows_of(semaphores: &[u8], count: usize) -> [u8; 17]
     requires { ⌜ SemaphoresHeld (now semaphores) count ⌝ }
     ensures { λ r. ⌜ ((s : ℕ) → s < 17 → getD r s 0 ≡ rowsOf (now (semaphores .entry)) s count) ⌝ }
 {
-    let mut found = [0usize; 17];
+    let mut found = [0u8; 17];
     for k in 0..count {
         let semaphore = semaphores[k] as usize;
         found[semaphore] += 1;
@@ -37,18 +36,14 @@ fn longest_kept(kept: &[u32]) -> Ticks
 
 // Takes in a row of a semaphore of which `rest` rows stand before it. Where there is none, the row's task is at the ceiling: no task that is
 // more urgent is blocked by that semaphore, so nothing is kept of it.
-fn take_in(semaphore: usize, rest: usize, section: Ticks, most: Ticks, kept: &mut [u32]) -> Ticks
+fn take_in(semaphore: usize, rest: u8, section: Ticks, most: Ticks, kept: &mut [u32]) -> Ticks
     requires { ⌜ (length (now kept) ≡ 17) × (semaphore < 17) ⌝ }
     requires { ⌜ most .0 ≡ largestTo (wordOf (now kept)) 17 ⌝ }
     ensures { λ r. ⌜ now (kept .exit) ≡ set (now (kept .entry)) semaphore (keptWith rest (section .0) (wordOf (now (kept .entry)) semaphore)) ⌝ }
     ensures { λ r. ⌜ r .0 ≡ largestTo (wordOf (now (kept .exit))) 17 ⌝ }
 {
     if rest == 0 {
-        let before = kept[semaphore];
         kept[semaphore] = 0;
-        if before < most.0 {
-            return most;
-        }
         return longest_kept(kept);
     }
     kept[semaphore] = larger(Ticks(kept[semaphore]), section).0;
@@ -70,9 +65,6 @@ pub fn blocking(
     requires { ⌜ Zeros (now held) n ⌝ }
     ensures { λ _. ⌜ now (held .exit) ≡ filled (blockingAt (now (priorities .entry)) (now (places .entry)) (now (semaphores .entry)) (now (longest .entry)) count) n (now (held .entry)) ⌝ }
 {
-    if count == 0 {
-        return;
-    }
     let mut rows = rows_of(semaphores, count);
     let mut kept = [0u32; 17];
     let mut most = Ticks(0);

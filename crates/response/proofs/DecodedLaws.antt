@@ -98,6 +98,7 @@ module _ (bytes : List ℕ) (records : RecordColumn → List ℕ) (rows : RowCol
   rows-held : RowsHeld ranks (rows placeColumn) (rows semaphoreColumn) (rows longestColumn) n m
   rows-held =
       record {
+        few = omega (arith, few-rows);
         prioritiesLong = omega (arith, ranksHeld .behind, tasksCounted);
         placesLong = omega (arith, held .ofRows placeColumn .long, rowsCounted);
         semaphoresLong = omega (arith, held .ofRows semaphoreColumn .long, rowsCounted);

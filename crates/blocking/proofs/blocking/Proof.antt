@@ -1,9 +1,9 @@
 -- `blocking::blocking` meets its contract: each turn takes in a row or answers a task, by the laws of `SweepLaws`.
 -- Assumes nothing.
 use Prim.Native.Nat.{_+_, _-_}
-use borrow.Author.Needs.{needs}
 use native.Mathlib.Omega.{arith}
-use Rattle.blocking.proofs.SweepLaws.{Swept, semaphores-held, no-rows, swept-none, swept-out, swept-all, semaphore-low, one-left, swept-row, swept-task}
+use borrow.Author.Needs.{needs}
+use Rattle.blocking.proofs.SweepLaws.{Swept, semaphores-held, swept-none, swept-out, swept-all, semaphore-low, one-left, swept-row, swept-task}
 use Rattle.blocking.proofs.blocking.Statement.{statement}
 use Rattle.blocking.proofs.blocking.Tie as tie
 
@@ -15,98 +15,89 @@ abbrev μ-loop : tie.MeasureT-loop
 μ-loop priorities places semaphores longest n count held₀ rows₀ kept₀ most₀ left₀ i₀ held rows kept most left i =
     i + left
 
-returns : tie.Need-returns Inv-loop μ-loop
-returns c = no-rows _ _ _ _ _ _ (c .before .before .before .before .before .before .pre .0) _ (c .before .before .before .before .before .before .pre .1) (c .if1 .taken)
-
 rows-of-requires : tie.Need-rows-of-requires Inv-loop μ-loop
-rows-of-requires c κs = semaphores-held _ _ _ _ _ _ (c .before .before .before .before .before .before .pre .0)
+rows-of-requires c κs = semaphores-held _ _ _ _ _ _ (c .before .before .before .before .before .pre .0)
 
 loop-holds : tie.Need-loop-holds Inv-loop μ-loop
-loop-holds c = swept-none _ _ _ _ _ _ (c .before .before .before .before .before .before .before .pre .0) _ (c .before .before .before .before .before .before .before .pre .1) _ (search needs) (c .rows-of .ensures)
+loop-holds c = swept-none _ _ _ _ _ _ (c .before .before .before .before .before .before .pre .0) _ (c .before .before .before .before .before .before .pre .1) _ (search needs) (c .rows-of .ensures)
 
 same-length : tie.Need-same-length Inv-loop μ-loop
 same-length c = c .before .before .loop .inv .long
 
-returns-2 : tie.Need-returns-2 Inv-loop μ-loop
-returns-2 c = swept-out _ _ _ _ _ _ (c .before .before .before .before .before .before .before .before .before .before .pre .0) _ (c .before .before .before .before .before .before .before .before .before .before .pre .1) _ _ _ _ _ _ (c .before .before .loop .inv) (c .if2 .taken)
+returns : tie.Need-returns Inv-loop μ-loop
+returns c = swept-out _ _ _ _ _ _ (c .before .before .before .before .before .before .before .before .before .pre .0) _ (c .before .before .before .before .before .before .before .before .before .pre .1) _ _ _ _ _ _ (c .before .before .loop .inv) (c .if1 .taken)
 
 sub-row : tie.Need-sub-row Inv-loop μ-loop
-sub-row c = omega (arith, c .if2 .left)
+sub-row c = omega (arith, c .if1 .left)
 
 shared-slice-read-place : tie.Need-shared-slice-read-place Inv-loop μ-loop
-shared-slice-read-place c = omega (arith, c .before .if2 .left, c .before .before .before .loop .inv .few, (c .before .before .before .before .before .before .before .before .before .before .before .pre .0) .placesLong)
+shared-slice-read-place c = omega (arith, c .before .if1 .left, c .before .before .before .loop .inv .few, (c .before .before .before .before .before .before .before .before .before .before .pre .0) .placesLong)
 
 cast-place : tie.Need-cast-place Inv-loop μ-loop
 cast-place c = omega (arith, c .shared-slice-known5 .given (c .before .before .before .loop .left - 1))
 
-shared-slice-read-if3 : tie.Need-shared-slice-read-if3 Inv-loop μ-loop
-shared-slice-read-if3 c = omega (arith, (c .before .before .before .before .before .before .before .before .before .before .before .before .pre .0) .prioritiesLong, (c .before .before .before .before .before .before .before .before .before .before .before .before .pre .0) .placesLow (c .before .before .before .before .loop .left - 1) (omega (arith, c .before .before .if2 .left, c .before .before .before .before .loop .inv .few)))
+shared-slice-read-if2 : tie.Need-shared-slice-read-if2 Inv-loop μ-loop
+shared-slice-read-if2 c = omega (arith, (c .before .before .before .before .before .before .before .before .before .before .before .pre .0) .prioritiesLong, (c .before .before .before .before .before .before .before .before .before .before .before .pre .0) .placesLow (c .before .before .before .before .loop .left - 1) (omega (arith, c .before .before .if1 .left, c .before .before .before .before .loop .inv .few)))
 
-sub-if3 : tie.Need-sub-if3 Inv-loop μ-loop
-sub-if3 c = omega (arith, c .before .before .before .loop-test .taken)
+sub-if2 : tie.Need-sub-if2 Inv-loop μ-loop
+sub-if2 c = omega (arith, c .before .before .before .loop-test .taken)
 
-shared-slice-read-if3-2 : tie.Need-shared-slice-read-if3-2 Inv-loop μ-loop
-shared-slice-read-if3-2 c = omega (arith, c .before .before .before .before .loop-test .taken, c .before .before .before .before .before .loop .inv .within, (c .before .before .before .before .before .before .before .before .before .before .before .before .before .pre .0) .prioritiesLong)
+shared-slice-read-if2-2 : tie.Need-shared-slice-read-if2-2 Inv-loop μ-loop
+shared-slice-read-if2-2 c = omega (arith, c .before .before .before .before .loop-test .taken, c .before .before .before .before .before .loop .inv .within, (c .before .before .before .before .before .before .before .before .before .before .before .before .pre .0) .prioritiesLong)
 
 shared-slice-read-semaphore : tie.Need-shared-slice-read-semaphore Inv-loop μ-loop
-shared-slice-read-semaphore c = omega (arith, c .before .before .before .before .before .if2 .left, c .before .before .before .before .before .before .before .loop .inv .few, (c .before .before .before .before .before .before .before .before .before .before .before .before .before .before .before .pre .0) .semaphoresLong)
+shared-slice-read-semaphore c = omega (arith, c .before .before .before .before .before .if1 .left, c .before .before .before .before .before .before .before .loop .inv .few, (c .before .before .before .before .before .before .before .before .before .before .before .before .before .before .pre .0) .semaphoresLong)
 
 cast-semaphore : tie.Need-cast-semaphore Inv-loop μ-loop
-cast-semaphore c = omega (arith, semaphore-low _ _ _ _ _ _ (c .before .before .before .before .before .before .before .before .before .before .before .before .before .before .before .pre .0) _ (c .before .before .before .before .before .before .before .before .before .before .before .before .before .before .before .pre .1) _ _ _ _ _ _ (c .before .before .before .before .before .before .before .loop .inv) (c .before .before .before .before .before .if2 .left))
-
-mul-rest : tie.Need-mul-rest Inv-loop μ-loop
-mul-rest c = omega (arith, semaphore-low _ _ _ _ _ _ (c .before .before .before .before .before .before .before .before .before .before .before .before .before .before .before .pre .0) _ (c .before .before .before .before .before .before .before .before .before .before .before .before .before .before .before .pre .1) _ _ _ _ _ _ (c .before .before .before .before .before .before .before .loop .inv) (c .before .before .before .before .before .if2 .left))
+cast-semaphore c = omega (arith, semaphore-low _ _ _ _ _ _ (c .before .before .before .before .before .before .before .before .before .before .before .before .before .before .pre .0) _ (c .before .before .before .before .before .before .before .before .before .before .before .before .before .before .pre .1) _ _ _ _ _ _ (c .before .before .before .before .before .before .before .loop .inv) (c .before .before .before .before .before .if1 .left))
 
 array-read-rest : tie.Need-array-read-rest Inv-loop μ-loop
-array-read-rest c = omega (arith, semaphore-low _ _ _ _ _ _ (c .before .before .before .before .before .before .before .before .before .before .before .before .before .before .before .pre .0) _ (c .before .before .before .before .before .before .before .before .before .before .before .before .before .before .before .pre .1) _ _ _ _ _ _ (c .before .before .before .before .before .before .before .loop .inv) (c .before .before .before .before .before .if2 .left), c .before .before .before .before .before .before .before .loop .inv .rowsLong)
+array-read-rest c = omega (arith, semaphore-low _ _ _ _ _ _ (c .before .before .before .before .before .before .before .before .before .before .before .before .before .before .pre .0) _ (c .before .before .before .before .before .before .before .before .before .before .before .before .before .before .pre .1) _ _ _ _ _ _ (c .before .before .before .before .before .before .before .loop .inv) (c .before .before .before .before .before .if1 .left), c .before .before .before .before .before .before .before .loop .inv .rowsLong)
 
 sub-rest : tie.Need-sub-rest Inv-loop μ-loop
-sub-rest c = omega (arith, one-left _ _ _ _ _ _ (c .before .before .before .before .before .before .before .before .before .before .before .before .before .before .before .pre .0) _ (c .before .before .before .before .before .before .before .before .before .before .before .before .before .before .before .pre .1) _ _ _ _ _ _ (c .before .before .before .before .before .before .before .loop .inv) (c .before .before .before .before .before .if2 .left))
-
-mul-rows : tie.Need-mul-rows Inv-loop μ-loop
-mul-rows c = omega (arith, semaphore-low _ _ _ _ _ _ (c .before .before .before .before .before .before .before .before .before .before .before .before .before .before .before .pre .0) _ (c .before .before .before .before .before .before .before .before .before .before .before .before .before .before .before .pre .1) _ _ _ _ _ _ (c .before .before .before .before .before .before .before .loop .inv) (c .before .before .before .before .before .if2 .left))
+sub-rest c = omega (arith, one-left _ _ _ _ _ _ (c .before .before .before .before .before .before .before .before .before .before .before .before .before .before .pre .0) _ (c .before .before .before .before .before .before .before .before .before .before .before .before .before .before .pre .1) _ _ _ _ _ _ (c .before .before .before .before .before .before .before .loop .inv) (c .before .before .before .before .before .if1 .left))
 
 array-write-rows : tie.Need-array-write-rows Inv-loop μ-loop
-array-write-rows c = omega (arith, semaphore-low _ _ _ _ _ _ (c .before .before .before .before .before .before .before .before .before .before .before .before .before .before .before .pre .0) _ (c .before .before .before .before .before .before .before .before .before .before .before .before .before .before .before .pre .1) _ _ _ _ _ _ (c .before .before .before .before .before .before .before .loop .inv) (c .before .before .before .before .before .if2 .left), c .before .before .before .before .before .before .before .loop .inv .rowsLong)
+array-write-rows c = omega (arith, semaphore-low _ _ _ _ _ _ (c .before .before .before .before .before .before .before .before .before .before .before .before .before .before .pre .0) _ (c .before .before .before .before .before .before .before .before .before .before .before .before .before .before .pre .1) _ _ _ _ _ _ (c .before .before .before .before .before .before .before .loop .inv) (c .before .before .before .before .before .if1 .left), c .before .before .before .before .before .before .before .loop .inv .rowsLong)
 
 mul-t31 : tie.Need-mul-t31 Inv-loop μ-loop
-mul-t31 c = omega (arith, c .before .before .before .before .before .if2 .left, c .before .before .before .before .before .before .before .loop .inv .few)
+mul-t31 c = omega (arith, c .before .before .before .before .before .if1 .left, c .before .before .before .before .before .before .before .loop .inv .few)
 
-shared-slice-read-t35 : tie.Need-shared-slice-read-t35 Inv-loop μ-loop
-shared-slice-read-t35 c = omega (arith, c .before .before .before .before .before .before .if2 .left, c .before .before .before .before .before .before .before .before .loop .inv .few, (c .before .before .before .before .before .before .before .before .before .before .before .before .before .before .before .before .pre .0) .longestLong)
+shared-slice-read-t33 : tie.Need-shared-slice-read-t33 Inv-loop μ-loop
+shared-slice-read-t33 c = omega (arith, c .before .before .before .before .before .before .if1 .left, c .before .before .before .before .before .before .before .before .loop .inv .few, (c .before .before .before .before .before .before .before .before .before .before .before .before .before .before .before .pre .0) .longestLong)
 
 slice-aggregate-take-in : tie.Need-slice-aggregate-take-in Inv-loop μ-loop
 slice-aggregate-take-in c = omega arith
 
 take-in-requires : tie.Need-take-in-requires Inv-loop μ-loop
-take-in-requires c κs = ((c .before .before .before .before .before .before .before .before .before .loop .inv .keptLong, semaphore-low _ _ _ _ _ _ (c .before .before .before .before .before .before .before .before .before .before .before .before .before .before .before .before .before .pre .0) _ (c .before .before .before .before .before .before .before .before .before .before .before .before .before .before .before .before .before .pre .1) _ _ _ _ _ _ (c .before .before .before .before .before .before .before .before .before .loop .inv) (c .before .before .before .before .before .before .before .if2 .left)), c .before .before .before .before .before .before .before .before .before .loop .inv .mostIs)
+take-in-requires c κs = ((c .before .before .before .before .before .before .before .before .before .loop .inv .keptLong, semaphore-low _ _ _ _ _ _ (c .before .before .before .before .before .before .before .before .before .before .before .before .before .before .before .before .pre .0) _ (c .before .before .before .before .before .before .before .before .before .before .before .before .before .before .before .before .pre .1) _ _ _ _ _ _ (c .before .before .before .before .before .before .before .before .before .loop .inv) (c .before .before .before .before .before .before .before .if1 .left)), c .before .before .before .before .before .before .before .before .before .loop .inv .mostIs)
 
 loop-less : tie.Need-loop-less Inv-loop μ-loop
-loop-less c = omega (arith, c .before .before .before .before .before .before .before .before .before .if2 .left)
+loop-less c = omega (arith, c .before .before .before .before .before .before .before .before .before .if1 .left)
 
 loop-again : tie.Need-loop-again Inv-loop μ-loop
-loop-again c = swept-row _ _ _ _ _ _ (c .before .before .before .before .before .before .before .before .before .before .before .before .before .before .before .before .before .before .before .pre .0) _ (c .before .before .before .before .before .before .before .before .before .before .before .before .before .before .before .before .before .before .before .pre .1) _ _ _ _ _ _ (c .before .before .before .before .before .before .before .before .before .before .before .loop .inv) (c .before .before .before .before .before .before .before .before .before .if2 .left) (c .before .before .before .before .before .before .before .before .before .before .loop-test .taken) (c .before .before .before .before .before .if3 .taken) _ _ (c .before .take-in .ensures .0) (c .before .take-in .ensures .1)
+loop-again c = swept-row _ _ _ _ _ _ (c .before .before .before .before .before .before .before .before .before .before .before .before .before .before .before .before .before .before .pre .0) _ (c .before .before .before .before .before .before .before .before .before .before .before .before .before .before .before .before .before .before .pre .1) _ _ _ _ _ _ (c .before .before .before .before .before .before .before .before .before .before .before .loop .inv) (c .before .before .before .before .before .before .before .before .before .if1 .left) (c .before .before .before .before .before .before .before .before .before .before .loop-test .taken) (omega (arith, c .before .before .before .before .before .if2 .taken)) _ _ (c .before .take-in .ensures .0) (c .before .take-in .ensures .1)
 
 sub-i : tie.Need-sub-i Inv-loop μ-loop
 sub-i c = omega (arith, c .before .before .before .before .before .loop-test .taken)
 
 mul-held : tie.Need-mul-held Inv-loop μ-loop
-mul-held c = omega (arith, c .before .before .before .before .before .loop-test .taken, c .before .before .before .before .before .before .loop .inv .within, (c .before .before .before .before .before .before .before .before .before .before .before .before .before .before .pre .1) .long)
+mul-held c = omega (arith, c .before .before .before .before .before .loop-test .taken, c .before .before .before .before .before .before .loop .inv .within, (c .before .before .before .before .before .before .before .before .before .before .before .before .before .pre .1) .long)
 
 slice-write-held : tie.Need-slice-write-held Inv-loop μ-loop
-slice-write-held c = omega (arith, c .before .before .before .before .before .loop-test .taken, c .before .before .before .before .before .before .loop .inv .within, c .before .before .before .before .before .before .loop .inv .long, (c .before .before .before .before .before .before .before .before .before .before .before .before .before .before .pre .1) .long)
+slice-write-held c = omega (arith, c .before .before .before .before .before .loop-test .taken, c .before .before .before .before .before .before .loop .inv .within, c .before .before .before .before .before .before .loop .inv .long, (c .before .before .before .before .before .before .before .before .before .before .before .before .before .pre .1) .long)
 
 loop-less-2 : tie.Need-loop-less-2 Inv-loop μ-loop
 loop-less-2 c = omega (arith, c .before .before .before .before .before .loop-test .taken)
 
 loop-again-2 : tie.Need-loop-again-2 Inv-loop μ-loop
-loop-again-2 c = swept-task _ _ _ _ _ _ (c .before .before .before .before .before .before .before .before .before .before .before .before .before .before .pre .0) _ (c .before .before .before .before .before .before .before .before .before .before .before .before .before .before .pre .1) _ _ _ _ _ _ (c .before .before .before .before .before .before .loop .inv) (c .before .before .before .before .if2 .left) (c .before .before .before .before .before .loop-test .taken) (c .if3 .left)
+loop-again-2 c = swept-task _ _ _ _ _ _ (c .before .before .before .before .before .before .before .before .before .before .before .before .before .pre .0) _ (c .before .before .before .before .before .before .before .before .before .before .before .before .before .pre .1) _ _ _ _ _ _ (c .before .before .before .before .before .before .loop .inv) (c .before .before .before .before .if1 .left) (c .before .before .before .before .before .loop-test .taken) (omega (arith, c .if2 .left))
 
 same-length-2 : tie.Need-same-length-2 Inv-loop μ-loop
 same-length-2 c = c .before .loop .inv .long
 
-returns-3 : tie.Need-returns-3 Inv-loop μ-loop
-returns-3 c = swept-all _ _ _ _ _ _ (c .before .before .before .before .before .before .before .before .before .pre .0) _ (c .before .before .before .before .before .before .before .before .before .pre .1) _ _ _ _ _ _ (c .before .loop .inv) (c .loop-test .left)
+returns-2 : tie.Need-returns-2 Inv-loop μ-loop
+returns-2 c = swept-all _ _ _ _ _ _ (c .before .before .before .before .before .before .before .before .pre .0) _ (c .before .before .before .before .before .before .before .before .pre .1) _ _ _ _ _ _ (c .before .loop .inv) (c .loop-test .left)
 
 pub blocking-spec : {M : Type 1} → statement M
 blocking-spec =
@@ -114,26 +105,23 @@ blocking-spec =
     (tie.spec
     Inv-loop
     μ-loop
-    returns
     rows-of-requires
     loop-holds
     same-length
-    returns-2
+    returns
     sub-row
     shared-slice-read-place
     cast-place
-    shared-slice-read-if3
-    sub-if3
-    shared-slice-read-if3-2
+    shared-slice-read-if2
+    sub-if2
+    shared-slice-read-if2-2
     shared-slice-read-semaphore
     cast-semaphore
-    mul-rest
     array-read-rest
     sub-rest
-    mul-rows
     array-write-rows
     mul-t31
-    shared-slice-read-t35
+    shared-slice-read-t33
     slice-aggregate-take-in
     take-in-requires
     loop-less
@@ -144,4 +132,4 @@ blocking-spec =
     loop-less-2
     loop-again-2
     same-length-2
-    returns-3)
+    returns-2)

@@ -21,14 +21,11 @@ shared-slice-read-semaphore c = omega (arith, c .before .before .before .pre .lo
 cast-semaphore : tie.Need-cast-semaphore Inv-loop μ-loop
 cast-semaphore c = omega (arith, c .before .before .before .pre .low (c .before .before .loop .k) (c .before .loop-test .taken))
 
-mul-found : tie.Need-mul-found Inv-loop μ-loop
-mul-found c = omega (arith, c .before .before .before .pre .low (c .before .before .loop .k) (c .before .loop-test .taken))
-
 array-read-found : tie.Need-array-read-found Inv-loop μ-loop
 array-read-found c = omega (arith, c .before .before .loop .inv .long, c .before .before .before .pre .low (c .before .before .loop .k) (c .before .loop-test .taken))
 
 add-found : tie.Need-add-found Inv-loop μ-loop
-add-found c = omega (arith, c .before .loop-test .taken, rows-high _ _ _ _ (c .before .before .loop .inv) _ (c .before .before .before .pre .low (c .before .before .loop .k) (c .before .loop-test .taken)))
+add-found c = omega (arith, c .before .before .before .pre .few, c .before .loop-test .taken, rows-high _ _ _ _ (c .before .before .loop .inv) _ (c .before .before .before .pre .low (c .before .before .loop .k) (c .before .loop-test .taken)))
 
 array-write-found : tie.Need-array-write-found Inv-loop μ-loop
 array-write-found c = omega (arith, c .before .before .loop .inv .long, c .before .before .before .pre .low (c .before .before .loop .k) (c .before .loop-test .taken))
@@ -54,7 +51,6 @@ rows-of-spec =
     loop-holds
     shared-slice-read-semaphore
     cast-semaphore
-    mul-found
     array-read-found
     add-found
     array-write-found
