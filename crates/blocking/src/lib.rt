@@ -6,6 +6,7 @@ ghost use lib.ListN.{length, getD, set};
 ghost use Rattle.model.specs.Lists.{filled, largestTo, wordOf};
 ghost use Rattle.blocking.specs.Slices.{blockingAt, RowsHeld};
 ghost use Rattle.blocking.specs.Sweep.{rowsOf, keptWith, SemaphoresHeld, Zeros};
+use model::Priority;
 use model::Ticks;
 use model::larger;
 
@@ -76,7 +77,9 @@ pub fn blocking(
         }
         let row = left - 1;
         let place = places[row] as usize;
-        if priorities[place] < priorities[i - 1] {
+        let owner = Priority(priorities[place]);
+        let own = Priority(priorities[i - 1]);
+        if owner.0 < own.0 {
             let semaphore = semaphores[row] as usize;
             let rest = rows[semaphore] - 1;
             rows[semaphore] = rest;

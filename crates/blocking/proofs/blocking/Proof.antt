@@ -36,62 +36,62 @@ shared-slice-read-place c = omega (arith, c .before .if1 .left, c .before .befor
 cast-place : tie.Need-cast-place Inv-loop μ-loop
 cast-place c = omega (arith, c .shared-slice-known5 .given (c .before .before .before .loop .left - 1))
 
-shared-slice-read-if2 : tie.Need-shared-slice-read-if2 Inv-loop μ-loop
-shared-slice-read-if2 c = omega (arith, (c .before .before .before .before .before .before .before .before .before .before .before .pre .0) .prioritiesLong, (c .before .before .before .before .before .before .before .before .before .before .before .pre .0) .placesLow (c .before .before .before .before .loop .left - 1) (omega (arith, c .before .before .if1 .left, c .before .before .before .before .loop .inv .few)))
+shared-slice-read-t22 : tie.Need-shared-slice-read-t22 Inv-loop μ-loop
+shared-slice-read-t22 c = omega (arith, (c .before .before .before .before .before .before .before .before .before .before .before .pre .0) .prioritiesLong, (c .before .before .before .before .before .before .before .before .before .before .before .pre .0) .placesLow (c .before .before .before .before .loop .left - 1) (omega (arith, c .before .before .if1 .left, c .before .before .before .before .loop .inv .few)))
 
-sub-if2 : tie.Need-sub-if2 Inv-loop μ-loop
-sub-if2 c = omega (arith, c .before .before .before .loop-test .taken)
+sub-t24 : tie.Need-sub-t24 Inv-loop μ-loop
+sub-t24 c = omega (arith, c .before .before .before .loop-test .taken)
 
-shared-slice-read-if2-2 : tie.Need-shared-slice-read-if2-2 Inv-loop μ-loop
-shared-slice-read-if2-2 c = omega (arith, c .before .before .before .before .loop-test .taken, c .before .before .before .before .before .loop .inv .within, (c .before .before .before .before .before .before .before .before .before .before .before .before .pre .0) .prioritiesLong)
+shared-slice-read-t22-2 : tie.Need-shared-slice-read-t22-2 Inv-loop μ-loop
+shared-slice-read-t22-2 c = omega (arith, c .before .before .before .before .loop-test .taken, c .before .before .before .before .before .loop .inv .within, (c .before .before .before .before .before .before .before .before .before .before .before .before .pre .0) .prioritiesLong)
 
 shared-slice-read-semaphore : tie.Need-shared-slice-read-semaphore Inv-loop μ-loop
-shared-slice-read-semaphore c = omega (arith, c .before .before .before .before .before .if1 .left, c .before .before .before .before .before .before .before .loop .inv .few, (c .before .before .before .before .before .before .before .before .before .before .before .before .before .before .pre .0) .semaphoresLong)
+shared-slice-read-semaphore c = omega (arith, c .before .before .before .before .before .before .before .if1 .left, c .before .before .before .before .before .before .before .before .before .loop .inv .few, (c .before .before .before .before .before .before .before .before .before .before .before .before .before .before .before .before .pre .0) .semaphoresLong)
 
 cast-semaphore : tie.Need-cast-semaphore Inv-loop μ-loop
-cast-semaphore c = omega (arith, semaphore-low _ _ _ _ _ _ (c .before .before .before .before .before .before .before .before .before .before .before .before .before .before .pre .0) _ (c .before .before .before .before .before .before .before .before .before .before .before .before .before .before .pre .1) _ _ _ _ _ _ (c .before .before .before .before .before .before .before .loop .inv) (c .before .before .before .before .before .if1 .left))
+cast-semaphore c = omega (arith, semaphore-low _ _ _ _ _ _ (c .before .before .before .before .before .before .before .before .before .before .before .before .before .before .before .before .pre .0) _ (c .before .before .before .before .before .before .before .before .before .before .before .before .before .before .before .before .pre .1) _ _ _ _ _ _ (c .before .before .before .before .before .before .before .before .before .loop .inv) (c .before .before .before .before .before .before .before .if1 .left))
 
 array-read-rest : tie.Need-array-read-rest Inv-loop μ-loop
-array-read-rest c = omega (arith, semaphore-low _ _ _ _ _ _ (c .before .before .before .before .before .before .before .before .before .before .before .before .before .before .pre .0) _ (c .before .before .before .before .before .before .before .before .before .before .before .before .before .before .pre .1) _ _ _ _ _ _ (c .before .before .before .before .before .before .before .loop .inv) (c .before .before .before .before .before .if1 .left), c .before .before .before .before .before .before .before .loop .inv .rowsLong)
+array-read-rest c = omega (arith, semaphore-low _ _ _ _ _ _ (c .before .before .before .before .before .before .before .before .before .before .before .before .before .before .before .before .pre .0) _ (c .before .before .before .before .before .before .before .before .before .before .before .before .before .before .before .before .pre .1) _ _ _ _ _ _ (c .before .before .before .before .before .before .before .before .before .loop .inv) (c .before .before .before .before .before .before .before .if1 .left), c .before .before .before .before .before .before .before .before .before .loop .inv .rowsLong)
 
 sub-rest : tie.Need-sub-rest Inv-loop μ-loop
-sub-rest c = omega (arith, one-left _ _ _ _ _ _ (c .before .before .before .before .before .before .before .before .before .before .before .before .before .before .pre .0) _ (c .before .before .before .before .before .before .before .before .before .before .before .before .before .before .pre .1) _ _ _ _ _ _ (c .before .before .before .before .before .before .before .loop .inv) (c .before .before .before .before .before .if1 .left))
+sub-rest c = omega (arith, one-left _ _ _ _ _ _ (c .before .before .before .before .before .before .before .before .before .before .before .before .before .before .before .before .pre .0) _ (c .before .before .before .before .before .before .before .before .before .before .before .before .before .before .before .before .pre .1) _ _ _ _ _ _ (c .before .before .before .before .before .before .before .before .before .loop .inv) (c .before .before .before .before .before .before .before .if1 .left))
 
 array-write-rows : tie.Need-array-write-rows Inv-loop μ-loop
-array-write-rows c = omega (arith, semaphore-low _ _ _ _ _ _ (c .before .before .before .before .before .before .before .before .before .before .before .before .before .before .pre .0) _ (c .before .before .before .before .before .before .before .before .before .before .before .before .before .before .pre .1) _ _ _ _ _ _ (c .before .before .before .before .before .before .before .loop .inv) (c .before .before .before .before .before .if1 .left), c .before .before .before .before .before .before .before .loop .inv .rowsLong)
+array-write-rows c = omega (arith, semaphore-low _ _ _ _ _ _ (c .before .before .before .before .before .before .before .before .before .before .before .before .before .before .before .before .pre .0) _ (c .before .before .before .before .before .before .before .before .before .before .before .before .before .before .before .before .pre .1) _ _ _ _ _ _ (c .before .before .before .before .before .before .before .before .before .loop .inv) (c .before .before .before .before .before .before .before .if1 .left), c .before .before .before .before .before .before .before .before .before .loop .inv .rowsLong)
 
-mul-t31 : tie.Need-mul-t31 Inv-loop μ-loop
-mul-t31 c = omega (arith, c .before .before .before .before .before .if1 .left, c .before .before .before .before .before .before .before .loop .inv .few)
+mul-t32 : tie.Need-mul-t32 Inv-loop μ-loop
+mul-t32 c = omega (arith, c .before .before .before .before .before .before .before .if1 .left, c .before .before .before .before .before .before .before .before .before .loop .inv .few)
 
-shared-slice-read-t33 : tie.Need-shared-slice-read-t33 Inv-loop μ-loop
-shared-slice-read-t33 c = omega (arith, c .before .before .before .before .before .before .if1 .left, c .before .before .before .before .before .before .before .before .loop .inv .few, (c .before .before .before .before .before .before .before .before .before .before .before .before .before .before .before .pre .0) .longestLong)
+shared-slice-read-t34 : tie.Need-shared-slice-read-t34 Inv-loop μ-loop
+shared-slice-read-t34 c = omega (arith, c .before .before .before .before .before .before .before .before .if1 .left, c .before .before .before .before .before .before .before .before .before .before .loop .inv .few, (c .before .before .before .before .before .before .before .before .before .before .before .before .before .before .before .before .before .pre .0) .longestLong)
 
 slice-aggregate-take-in : tie.Need-slice-aggregate-take-in Inv-loop μ-loop
 slice-aggregate-take-in c = omega arith
 
 take-in-requires : tie.Need-take-in-requires Inv-loop μ-loop
-take-in-requires c κs = ((c .before .before .before .before .before .before .before .before .before .loop .inv .keptLong, semaphore-low _ _ _ _ _ _ (c .before .before .before .before .before .before .before .before .before .before .before .before .before .before .before .before .pre .0) _ (c .before .before .before .before .before .before .before .before .before .before .before .before .before .before .before .before .pre .1) _ _ _ _ _ _ (c .before .before .before .before .before .before .before .before .before .loop .inv) (c .before .before .before .before .before .before .before .if1 .left)), c .before .before .before .before .before .before .before .before .before .loop .inv .mostIs)
+take-in-requires c κs = ((c .before .before .before .before .before .before .before .before .before .before .before .loop .inv .keptLong, semaphore-low _ _ _ _ _ _ (c .before .before .before .before .before .before .before .before .before .before .before .before .before .before .before .before .before .before .pre .0) _ (c .before .before .before .before .before .before .before .before .before .before .before .before .before .before .before .before .before .before .pre .1) _ _ _ _ _ _ (c .before .before .before .before .before .before .before .before .before .before .before .loop .inv) (c .before .before .before .before .before .before .before .before .before .if1 .left)), c .before .before .before .before .before .before .before .before .before .before .before .loop .inv .mostIs)
 
 loop-less : tie.Need-loop-less Inv-loop μ-loop
-loop-less c = omega (arith, c .before .before .before .before .before .before .before .before .before .if1 .left)
+loop-less c = omega (arith, c .before .before .before .before .before .before .before .before .before .before .before .if1 .left)
 
 loop-again : tie.Need-loop-again Inv-loop μ-loop
-loop-again c = swept-row _ _ _ _ _ _ (c .before .before .before .before .before .before .before .before .before .before .before .before .before .before .before .before .before .before .pre .0) _ (c .before .before .before .before .before .before .before .before .before .before .before .before .before .before .before .before .before .before .pre .1) _ _ _ _ _ _ (c .before .before .before .before .before .before .before .before .before .before .before .loop .inv) (c .before .before .before .before .before .before .before .before .before .if1 .left) (c .before .before .before .before .before .before .before .before .before .before .loop-test .taken) (omega (arith, c .before .before .before .before .before .if2 .taken)) _ _ (c .before .take-in .ensures .0) (c .before .take-in .ensures .1)
+loop-again c = swept-row _ _ _ _ _ _ (c .before .before .before .before .before .before .before .before .before .before .before .before .before .before .before .before .before .before .before .before .pre .0) _ (c .before .before .before .before .before .before .before .before .before .before .before .before .before .before .before .before .before .before .before .before .pre .1) _ _ _ _ _ _ (c .before .before .before .before .before .before .before .before .before .before .before .before .before .loop .inv) (c .before .before .before .before .before .before .before .before .before .before .before .if1 .left) (c .before .before .before .before .before .before .before .before .before .before .before .before .loop-test .taken) (omega (arith, c .before .before .before .before .before .if2 .taken)) _ _ (c .before .take-in .ensures .0) (c .before .take-in .ensures .1)
 
 sub-i : tie.Need-sub-i Inv-loop μ-loop
-sub-i c = omega (arith, c .before .before .before .before .before .loop-test .taken)
+sub-i c = omega (arith, c .before .before .before .before .before .before .before .loop-test .taken)
 
 mul-held : tie.Need-mul-held Inv-loop μ-loop
-mul-held c = omega (arith, c .before .before .before .before .before .loop-test .taken, c .before .before .before .before .before .before .loop .inv .within, (c .before .before .before .before .before .before .before .before .before .before .before .before .before .pre .1) .long)
+mul-held c = omega (arith, c .before .before .before .before .before .before .before .loop-test .taken, c .before .before .before .before .before .before .before .before .loop .inv .within, (c .before .before .before .before .before .before .before .before .before .before .before .before .before .before .before .pre .1) .long)
 
 slice-write-held : tie.Need-slice-write-held Inv-loop μ-loop
-slice-write-held c = omega (arith, c .before .before .before .before .before .loop-test .taken, c .before .before .before .before .before .before .loop .inv .within, c .before .before .before .before .before .before .loop .inv .long, (c .before .before .before .before .before .before .before .before .before .before .before .before .before .pre .1) .long)
+slice-write-held c = omega (arith, c .before .before .before .before .before .before .before .loop-test .taken, c .before .before .before .before .before .before .before .before .loop .inv .within, c .before .before .before .before .before .before .before .before .loop .inv .long, (c .before .before .before .before .before .before .before .before .before .before .before .before .before .before .before .pre .1) .long)
 
 loop-less-2 : tie.Need-loop-less-2 Inv-loop μ-loop
-loop-less-2 c = omega (arith, c .before .before .before .before .before .loop-test .taken)
+loop-less-2 c = omega (arith, c .before .before .before .before .before .before .before .loop-test .taken)
 
 loop-again-2 : tie.Need-loop-again-2 Inv-loop μ-loop
-loop-again-2 c = swept-task _ _ _ _ _ _ (c .before .before .before .before .before .before .before .before .before .before .before .before .before .pre .0) _ (c .before .before .before .before .before .before .before .before .before .before .before .before .before .pre .1) _ _ _ _ _ _ (c .before .before .before .before .before .before .loop .inv) (c .before .before .before .before .if1 .left) (c .before .before .before .before .before .loop-test .taken) (omega (arith, c .if2 .left))
+loop-again-2 c = swept-task _ _ _ _ _ _ (c .before .before .before .before .before .before .before .before .before .before .before .before .before .before .before .pre .0) _ (c .before .before .before .before .before .before .before .before .before .before .before .before .before .before .before .pre .1) _ _ _ _ _ _ (c .before .before .before .before .before .before .before .before .loop .inv) (c .before .before .before .before .before .before .if1 .left) (c .before .before .before .before .before .before .before .loop-test .taken) (omega (arith, c .if2 .left))
 
 same-length-2 : tie.Need-same-length-2 Inv-loop μ-loop
 same-length-2 c = c .before .loop .inv .long
@@ -112,16 +112,16 @@ blocking-spec =
     sub-row
     shared-slice-read-place
     cast-place
-    shared-slice-read-if2
-    sub-if2
-    shared-slice-read-if2-2
+    shared-slice-read-t22
+    sub-t24
+    shared-slice-read-t22-2
     shared-slice-read-semaphore
     cast-semaphore
     array-read-rest
     sub-rest
     array-write-rows
-    mul-t31
-    shared-slice-read-t33
+    mul-t32
+    shared-slice-read-t34
     slice-aggregate-take-in
     take-in-requires
     loop-less
