@@ -1,5 +1,5 @@
-// Blocking by priority ceiling, of all tasks in one sweep from the last row and the last task to the first: each row and each task is looked
-// at once. It rests on the order of an accepted table: priorities do not rise, and rows do not fall by place.
+// Blocking by priority ceiling, of all tasks in one sweep from the last row and the last task to the first: each row is taken in once, and each
+// task answered once. It rests on the order of an accepted table: priorities do not rise, and rows do not fall by place.
 ghost use mathlib.Core.Path.{_≡_};
 ghost use Prim.Native.Nat.{ℕ, _<_};
 ghost use lib.ListN.{length, getD, set};
