@@ -6,14 +6,12 @@ use native.Mathlib.Numerals.{add-one}
 use mathlib.Core.Path.{_≡_, refl, sym, _∙_, ap, subst}
 use lib.ListN.{getD}
 use mathlib.Core.Bool.{Bool, true, false}
-use lib.Dec.{eqb, leb, ltb}
+use lib.Dec.{eqb}
 use Rattle.model.specs.declared.Place.{Place}
-use Rattle.model.specs.Choice.{pick, both}
-use Rattle.model.specs.Lists.{largestTo, sumOf, total, wordOf}
+use Rattle.model.specs.Choice.{pick}
+use Rattle.model.specs.Lists.{sumOf, total, wordOf}
 use Rattle.model.specs.Tables.{interferes}
 use Rattle.model.specs.Search.{firstOf}
-use Rattle.model.proofs.Lists.{largest-high}
-use Rattle.model.proofs.Tests.{on-high}
 use Rattle.model.proofs.First.{first-none}
 use Rattle.tables.specs.Refusals.{at}
 use Rattle.equation.specs.declared.Start.{Start}
@@ -27,7 +25,6 @@ use Rattle.equation.specs.Laws.{NotAbove, costOf}
 use Rattle.solver.specs.Solver.{Solvable, SolvedBy}
 use Rattle.equation.specs.Starts.{firstTerm, startFrom}
 use Rattle.equation.proofs.StartLaws.{bothStarts, periods-low, costs-others}
-use Rattle.blocking.specs.Slices.{sectionAt}
 use Rattle.answering.specs.declared.Verdict.{Verdict}
 use Rattle.answering.specs.declared.Verdict.the-variants.{Refused, Schedulable, Late}
 use Rattle.answering.specs.Results.{isSchedulable, lateIf, lateAt, resultOf}
@@ -78,19 +75,9 @@ module _ (d : Decoded) (n : ℕ) where
         costs-high (d .priorities) (d .costs) n (a .fits .ranked) (i + 1) (omega arith),
       )
 
-  module _ (i held : ℕ) (f : DecodedFits d n) (h : i < n)
-      (is : held ≡ largestTo (sectionAt (d .owners) (d .tops) (d .longest) (getD (d .priorities) i 0)) (d .rows)) where
-    held-high : held ≤ 1000000
-    held-high =
-        rw is
-        (largest-high (sectionAt (d .owners) (d .tops) (d .longest) (getD (d .priorities) i 0)) (d .rows) 1000000
-        (λ k l.
-        let b = both (ltb (getD (d .owners) k 0) (getD (d .priorities) i 0)) (leb (getD (d .priorities) i 0) (getD (d .tops) k 0)) in
-        omega (arith, on-high b (getD (d .longest) k 0), f .longestHigh k l)))
-
-    -- cost and blocking fit a word
-    pub base-fits : getD (d .costs) i 0 + held ≤ 2000000
-    base-fits = omega (arith, held-high, f .loadsFit .each i h)
+  -- cost and blocking fit a word
+  pub base-fits : (i : ℕ) → DecodedFits d n → i < n → getD (d .costs) i 0 + getD (d .held) i 0 ≤ 2000000
+  base-fits i f h = omega (arith, f .heldHigh i h, f .loadsFit .each i h)
 
   -- the group of the task, as it was found
   module _ (i : ℕ) (f : DecodedFits d n) (h : i < n) (beforeEnd beforeSum count all end sum : ℕ)
@@ -133,72 +120,71 @@ module _ (d : Decoded) (n : ℕ) where
     pub loads-fit : LoadsFit (d .periods) (d .costs) (d .spreads) count
     loads-fit = loads-less (f .loadsFit) count-high
 
-    module _ (held : ℕ) (is : held ≡ largestTo (sectionAt (d .owners) (d .tops) (d .longest) (getD (d .priorities) i 0)) (d .rows)) where
-      -- the first term fits a word
-      pub first-fits : getD (d .costs) i 0 + held + (all - getD (d .costs) i 0) ≤ 1000000000
-      first-fits = omega (arith, base-fits i held f h is, all-high)
+    -- the first term fits a word
+    pub first-fits : getD (d .costs) i 0 + getD (d .held) i 0 + (all - getD (d .costs) i 0) ≤ 1000000000
+    first-fits = omega (arith, base-fits i f h, all-high)
 
-      module _ (start : Start) (first : ℕ) (firstIs : first ≡ firstTerm start (getD (d .costs) i 0 + held) (all - getD (d .costs) i 0)) where
-        -- the sum of costs is that of the definition
-        first-is : first ≡ startFrom start (getD (d .costs) i 0 + held) (loadsIn d n i)
-        first-is =
-            rw others-are at firstIs
+    module _ (start : Start) (first : ℕ) (firstIs : first ≡ firstTerm start (getD (d .costs) i 0 + getD (d .held) i 0) (all - getD (d .costs) i 0)) where
+      -- the sum of costs is that of the definition
+      first-is : first ≡ startFrom start (getD (d .costs) i 0 + getD (d .held) i 0) (loadsIn d n i)
+      first-is =
+          rw others-are at firstIs
 
-        first-high : (s : Start) → firstTerm s (getD (d .costs) i 0 + held) (all - getD (d .costs) i 0) ≤ 1000000000
-        first-high EveryCost = first-fits
-        first-high OwnCost = omega (arith, base-fits i held f h is)
+      first-high : (s : Start) → firstTerm s (getD (d .costs) i 0 + getD (d .held) i 0) (all - getD (d .costs) i 0) ≤ 1000000000
+      first-high EveryCost = first-fits
+      first-high OwnCost = omega (arith, base-fits i f h)
 
-        -- the sequence may start at either: every solution is at least that
-        pub solvable : Solvable (getD (d .costs) i 0 + held) (loads (d .periods) (d .costs) (d .spreads) i count) first (getD (d .latest) i 0) (getD (d .deadlines) i 0)
-        solvable =
-            let base = getD (d .costs) i 0 + held in
-            rw loads-are
-            (record {
-              basePositive = omega (arith, f .costLow i h);
-              notAbove =
-                  subst (NotAbove base (loadsIn d n i)) (sym first-is)
-                  (bothStarts .notAbove start base (loadsIn d n i)
-                  (periods-low (interferes (wordOf (d .priorities)) i) (loadAt (d .periods) (d .costs) (d .spreads)) n
-                  (λ k l. f .loadsFit .each k l .periodLow)));
-              startHigh = omega (arith, firstIs, first-high start);
-              lateHigh = f .latestHigh i h;
-              deadlineHigh = f .deadlineHigh i h;
-            })
+      -- the sequence may start at either: every solution is at least that
+      pub solvable : Solvable (getD (d .costs) i 0 + getD (d .held) i 0) (loads (d .periods) (d .costs) (d .spreads) i count) first (getD (d .latest) i 0) (getD (d .deadlines) i 0)
+      solvable =
+          let base = getD (d .costs) i 0 + getD (d .held) i 0 in
+          rw loads-are
+          (record {
+            basePositive = omega (arith, f .costLow i h);
+            notAbove =
+                subst (NotAbove base (loadsIn d n i)) (sym first-is)
+                (bothStarts .notAbove start base (loadsIn d n i)
+                (periods-low (interferes (wordOf (d .priorities)) i) (loadAt (d .periods) (d .costs) (d .spreads)) n
+                (λ k l. f .loadsFit .each k l .periodLow)));
+            startHigh = omega (arith, firstIs, first-high start);
+            lateHigh = f .latestHigh i h;
+            deadlineHigh = f .deadlineHigh i h;
+          })
 
-        -- either start is at least the own cost
-        first-low : (s : Start) → 1 ≤ firstTerm s (getD (d .costs) i 0 + held) (all - getD (d .costs) i 0)
-        first-low EveryCost = omega (arith, f .costLow i h)
-        first-low OwnCost = omega (arith, f .costLow i h)
+      -- either start is at least the own cost
+      first-low : (s : Start) → 1 ≤ firstTerm s (getD (d .costs) i 0 + getD (d .held) i 0) (all - getD (d .costs) i 0)
+      first-low EveryCost = omega (arith, f .costLow i h)
+      first-low OwnCost = omega (arith, f .costLow i h)
 
-        -- what the solver knows before its first round
-        pub begun : PeriodsHigh (d .periods) n → (least : ℕ) → least ≡ leastFrom never (firstMarkAt (d .periods) (d .spreads)) n →
-            Begun (d .periods) (d .spreads) count (loads (d .periods) (d .costs) (d .spreads) i count) (getD (d .costs) i 0 + held)
-            (all - getD (d .costs) i 0) first least
-        begun tall least e =
-            record {
-              periodHigh = λ k l. tall k (omega (arith, count-high));
-              othersAre = others-once;
-              onceHigh = first-fits;
-              startLow = omega (arith, firstIs, first-low start);
-              leastHigh =
-                  omega (
-                    arith,
-                    e,
-                    least-low never (firstMarkAt (d .periods) (d .spreads)) n i h,
-                    marksFit .first (getD (d .periods) i 0) (getD (d .spreads) i 0) (tall i h),
-                  );
-              leastLow = λ k l. omega (arith, e, count-high, least-low never (firstMarkAt (d .periods) (d .spreads)) n k (omega (arith, count-high)));
-            }
+      -- what the solver knows before its first round
+      pub begun : PeriodsHigh (d .periods) n → (least : ℕ) → least ≡ leastFrom never (firstMarkAt (d .periods) (d .spreads)) n →
+          Begun (d .periods) (d .spreads) count (loads (d .periods) (d .costs) (d .spreads) i count) (getD (d .costs) i 0 + getD (d .held) i 0)
+          (all - getD (d .costs) i 0) first least
+      begun tall least e =
+          record {
+            periodHigh = λ k l. tall k (omega (arith, count-high));
+            othersAre = others-once;
+            onceHigh = first-fits;
+            startLow = omega (arith, firstIs, first-low start);
+            leastHigh =
+                omega (
+                  arith,
+                  e,
+                  least-low never (firstMarkAt (d .periods) (d .spreads)) n i h,
+                  marksFit .first (getD (d .periods) i 0) (getD (d .spreads) i 0) (tall i h),
+                );
+            leastLow = λ k l. omega (arith, e, count-high, least-low never (firstMarkAt (d .periods) (d .spreads)) n k (omega (arith, count-high)));
+          }
 
-        module _ (late : Bool) (response spent : ℕ)
-            (solved : SolvedBy (getD (d .costs) i 0 + held) (loads (d .periods) (d .costs) (d .spreads) i count) first (getD (d .latest) i 0) (getD (d .deadlines) i 0) late response spent) where
-          pub response-is : response ≡ answerIn d n i
-          unfolding answerIn
-          response-is = rw (is, loads-are) at (solved .response)
+      module _ (late : Bool) (response spent : ℕ)
+          (solved : SolvedBy (getD (d .costs) i 0 + getD (d .held) i 0) (loads (d .periods) (d .costs) (d .spreads) i count) first (getD (d .latest) i 0) (getD (d .deadlines) i 0) late response spent) where
+        pub response-is : response ≡ answerIn d n i
+        unfolding answerIn
+        response-is = rw loads-are at (solved .response)
 
-          pub rounds-are : spent ≡ roundsIn start d n i
-          unfolding roundsIn
-          rounds-are = rw (is, loads-are) at (rw first-is at (solved .rounds))
+        pub rounds-are : spent ≡ roundsIn start d n i
+        unfolding roundsIn
+        rounds-are = rw loads-are at (rw first-is at (solved .rounds))
 
     pub walking-more : (reached : ℕ) → Walking d n i beforeEnd beforeSum reached → Walking d n (i + 1) end sum (reached + getD (d .costs) i 0)
     walking-more reached a =

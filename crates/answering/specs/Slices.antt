@@ -12,18 +12,17 @@ use lib.Dec.{eqb, leb}
 use lib.ListN.{length, getD}
 use mathlib.Core.Path.{_≡_}
 use Rattle.model.specs.Choice.{pick, on}
-use Rattle.model.specs.Lists.{largestTo, total, gather, filled, wordOf}
+use Rattle.model.specs.Lists.{total, gather, filled, wordOf}
 use Rattle.model.specs.Tables.{Load, interferes}
 use Rattle.equation.specs.Answer.{answer}
 use Rattle.equation.specs.Sequence as sequence
 use Rattle.equation.specs.Slices.{loadAt, LoadsFit}
 use Rattle.equation.specs.declared.Start.{Start}
 use Rattle.equation.specs.Starts.{startFrom}
-use Rattle.blocking.specs.Slices.{sectionAt}
 use Rattle.answering.specs.declared.Verdict.{Verdict}
 use Rattle.answering.specs.Results.{resultOf}
 
--- a decoded table: a word of each of six slices for each task, and of each of three for each of `rows` section rows
+-- a decoded table, and the blocking of its tasks: a word of each of seven slices for each task
 pub record Decoded : Type 0 where
   pub priorities : List ℕ
   pub periods : List ℕ
@@ -31,13 +30,10 @@ pub record Decoded : Type 0 where
   pub deadlines : List ℕ
   pub spreads : List ℕ
   pub latest : List ℕ
-  pub owners : List ℕ
-  pub tops : List ℕ
-  pub longest : List ℕ
-  pub rows : ℕ
+  pub held : List ℕ
 
-abbrev pub decoded : (priorities periods costs deadlines spreads latest owners tops longest : List ℕ) (rows : ℕ) → Decoded
-decoded priorities periods costs deadlines spreads latest owners tops longest rows =
+abbrev pub decoded : (priorities periods costs deadlines spreads latest held : List ℕ) → Decoded
+decoded priorities periods costs deadlines spreads latest held =
     record {
       priorities = priorities;
       periods = periods;
@@ -45,14 +41,11 @@ decoded priorities periods costs deadlines spreads latest owners tops longest ro
       deadlines = deadlines;
       spreads = spreads;
       latest = latest;
-      owners = owners;
-      tops = tops;
-      longest = longest;
-      rows = rows;
+      held = held;
     }
 
 abbrev pub baseIn : Decoded → ℕ → ℕ
-baseIn d i = getD (d .costs) i 0 + largestTo (sectionAt (d .owners) (d .tops) (d .longest) (getD (d .priorities) i 0)) (d .rows)
+baseIn d i = getD (d .costs) i 0 + getD (d .held) i 0
 
 -- "Every other task of equal or greater priority interferes", of n tasks (SPECIFICATION 4.2; document 02, L6)
 abbrev pub loadsIn : Decoded → ℕ → ℕ → List Load
@@ -101,19 +94,17 @@ pub record GroupFound (priorities costs : List ℕ) (n i beforeEnd beforeSum cou
   pub endIs : end ≡ pick (sameNext priorities i) (groupEnd priorities n i) beforeEnd
   pub sumIs : sum ≡ pick (sameNext priorities i) (total (wordOf costs) (groupEnd priorities n i)) beforeSum
 
--- n tasks and the rows stand in the slices, each number within its limit
+-- n tasks stand in the slices, each number within its limit
 pub record DecodedFits (d : Decoded) (n : ℕ) : Type 0 where
   pub loadsFit : LoadsFit (d .periods) (d .costs) (d .spreads) n
   pub ranked : Ranked (d .priorities) (d .costs) n
   pub deadlinesLong : n ≤ length (d .deadlines)
   pub latestLong : n ≤ length (d .latest)
-  pub ownersLong : d .rows ≤ length (d .owners)
-  pub topsLong : d .rows ≤ length (d .tops)
-  pub longestLong : d .rows ≤ length (d .longest)
+  pub heldLong : n ≤ length (d .held)
   pub costLow : (i : ℕ) → i < n → 1 ≤ getD (d .costs) i 0
   pub deadlineHigh : (i : ℕ) → i < n → getD (d .deadlines) i 0 ≤ 1000000
   pub latestHigh : (i : ℕ) → i < n → getD (d .latest) i 0 ≤ 1000000
-  pub longestHigh : (k : ℕ) → k < d .rows → getD (d .longest) k 0 ≤ 1000000
+  pub heldHigh : (i : ℕ) → i < n → getD (d .held) i 0 ≤ 1000000
 
 -- a lent slice: its words before a call and after it
 pub record Slice : Type 0 where

@@ -8,11 +8,9 @@ ghost use Rattle.solver.specs.Marks.{PeriodsHigh};
 ghost use Rattle.answering.specs.declared.Verdict.the-variants.{Late};
 ghost use Rattle.answering.specs.Results.{isSchedulable};
 ghost use Rattle.answering.specs.Slices.{decoded, DecodedFits, Ranked, GroupBefore, GroupFound, slice, Answered};
-use blocking::blocking;
 use equation::Start;
 use equation::first_term;
 use model::Place;
-use model::Priority;
 use model::Ticks;
 use solver::least_first;
 use solver::solve;
@@ -104,8 +102,8 @@ pub fn group_of(
     }
 }
 
-// Answers and rounds of the n tasks, each from its own first term on. Groups and their costs are found along the way. The words of `marks` are
-// scratch, one for each task and one more, made once for a table.
+// Answers and rounds of the n tasks, each from its own first term on; `held` has their blocking. Groups and their costs are found along the
+// way. The words of `marks` are scratch, one for each task and one more, made once for a table.
 pub fn answer_all(
     start: Start,
     priorities: &[u8],
@@ -115,18 +113,15 @@ pub fn answer_all(
     spreads: &[u32],
     latest: &[u32],
     n: usize,
-    owners: &[u8],
-    tops: &[u8],
-    longest: &[u32],
-    m: usize,
+    held: &[u32],
     answers: &mut [u32],
     rounds: &mut [u32],
     marks: &mut [u32],
 ) -> Verdict
-    requires { ⌜ DecodedFits (decoded (now priorities) (now periods) (now costs) (now deadlines) (now spreads) (now latest) (now owners) (now tops) (now longest) m) n ⌝ }
+    requires { ⌜ DecodedFits (decoded (now priorities) (now periods) (now costs) (now deadlines) (now spreads) (now latest) (now held)) n ⌝ }
     requires { ⌜ PeriodsHigh (now periods) n × (n < length (now marks)) ⌝ }
     requires { ⌜ (n ≤ length (now answers)) × (n ≤ length (now rounds)) ⌝ }
-    ensures { λ r. ⌜ Answered start (decoded (now (priorities .entry)) (now (periods .entry)) (now (costs .entry)) (now (deadlines .entry)) (now (spreads .entry)) (now (latest .entry)) (now (owners .entry)) (now (tops .entry)) (now (longest .entry)) m) n r (slice (now (answers .entry)) (now (answers .exit))) (slice (now (rounds .entry)) (now (rounds .exit))) ⌝ }
+    ensures { λ r. ⌜ Answered start (decoded (now (priorities .entry)) (now (periods .entry)) (now (costs .entry)) (now (deadlines .entry)) (now (spreads .entry)) (now (latest .entry)) (now (held .entry))) n r (slice (now (answers .entry)) (now (answers .exit))) (slice (now (rounds .entry)) (now (rounds .exit))) ⌝ }
 {
     let mut group = Group {
         count: 0,
@@ -142,8 +137,7 @@ pub fn answer_all(
         reached = Ticks(reached.0 + cost.0);
         group = group_of(priorities, costs, n, group, reached, i);
         let others = Ticks(group.all.0 - cost.0);
-        let held = blocking(owners, tops, longest, m, Priority(priorities[i]));
-        let base = Ticks(cost.0 + held.0);
+        let base = Ticks(cost.0 + held[i]);
         let solved = solve(
             periods,
             costs,

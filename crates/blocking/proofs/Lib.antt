@@ -1,1 +1,2 @@
 pub mod CeilingLaws
+pub mod SweepLaws

@@ -1,2 +1,3 @@
 pub mod Ceilings
 pub mod Slices
+pub mod Sweep

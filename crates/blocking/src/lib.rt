@@ -1,100 +1,93 @@
-// Blocking by priority ceiling. The ceilings are found once, in one pass over the rows; then each task looks once at each row.
+// Blocking by priority ceiling, of all tasks in one sweep from the last row and the last task to the first: each row is taken in once, and each
+// task answered once. It rests on the order of an accepted table: priorities do not rise, and rows do not fall by place.
 ghost use mathlib.Core.Path.{_≡_};
-ghost use Prim.Native.Nat.{ℕ, _≤_, _<_, max};
-ghost use lib.Dec.{leb, ltb};
-ghost use lib.ListN.{length, getD};
-ghost use Rattle.model.specs.Choice.{both, on};
-ghost use Rattle.model.specs.Lists.{filled, largestTo};
-ghost use Rattle.blocking.specs.Slices.{ceilingIn, ownerAt, topAt, sectionAt, RowsHeld};
+ghost use Prim.Native.Nat.{ℕ, _<_};
+ghost use lib.ListN.{length, getD, set};
+ghost use Rattle.model.specs.Lists.{filled, largestTo, wordOf};
+ghost use Rattle.blocking.specs.Slices.{blockingAt, RowsHeld};
+ghost use Rattle.blocking.specs.Sweep.{rowsOf, keptWith, SemaphoresHeld, Zeros};
 use model::Priority;
 use model::Ticks;
 use model::larger;
 
-fn more_urgent(a: Priority, b: Priority) -> Priority
-    ensures { λ r. ⌜ r .0 ≡ max (a .0) (b .0) ⌝ }
-{
-    if a.0 < b.0 { b } else { a }
-}
-
-// What a row adds: its section, where its task is less urgent and its semaphore's ceiling is at least the own priority.
-fn held(owner: Priority, top: Priority, longest: Ticks, own: Priority) -> Ticks
-    ensures { λ r. ⌜ r .0 ≡ on (both (ltb (owner .0) (own .0)) (leb (own .0) (top .0))) (longest .0) ⌝ }
-{
-    if own.0 <= owner.0 {
-        return Ticks(0);
-    }
-    if top.0 < own.0 {
-        return Ticks(0);
-    }
-    longest
-}
-
-// The ceiling of each semaphore, 0 where no row names it; and, since each row's task is looked up for that, the task's priority.
-pub fn ceilings(
-    priorities: &[u8],
-    places: &[u8],
-    semaphores: &[u8],
-    count: usize,
-    owners: &mut [u8],
-) -> [u8; 17]
-    requires { ⌜ RowsHeld (now priorities) (now places) (now semaphores) count ⌝ }
-    requires { ⌜ count ≤ length (now owners) ⌝ }
-    ensures { λ r. ⌜ ((s : ℕ) → s < 17 → getD r s 0 ≡ ceilingIn (now (priorities .entry)) (now (places .entry)) (now (semaphores .entry)) count s) ⌝ }
-    ensures { λ r. ⌜ now (owners .exit) ≡ filled (ownerAt (now (priorities .entry)) (now (places .entry))) count (now (owners .entry)) ⌝ }
+// How many rows name each semaphore.
+fn rows_of(semaphores: &[u8], count: usize) -> [u8; 17]
+    requires { ⌜ SemaphoresHeld (now semaphores) count ⌝ }
+    ensures { λ r. ⌜ ((s : ℕ) → s < 17 → getD r s 0 ≡ rowsOf (now (semaphores .entry)) s count) ⌝ }
 {
     let mut found = [0u8; 17];
     for k in 0..count {
         let semaphore = semaphores[k] as usize;
-        let place = places[k] as usize;
-        let priority = Priority(priorities[place]);
-        owners[k] = priority.0;
-        found[semaphore] = more_urgent(Priority(found[semaphore]), priority).0;
+        found[semaphore] += 1;
     }
     found
 }
 
-// For each row the priority of its task and the ceiling of its semaphore.
-pub fn spans(
+// The longest of the sections that are kept, one for each semaphore.
+fn longest_kept(kept: &[u32]) -> Ticks
+    requires { ⌜ length (now kept) ≡ 17 ⌝ }
+    ensures { λ r. ⌜ r .0 ≡ largestTo (wordOf (now (kept .entry))) 17 ⌝ }
+{
+    let mut most = Ticks(0);
+    for s in 0..17 {
+        most = larger(most, Ticks(kept[s]));
+    }
+    most
+}
+
+// Takes in a row of a semaphore of which `rest` rows stand before it. Where there is none, the row's task is at the ceiling: no task that is
+// more urgent is blocked by that semaphore, so nothing is kept of it.
+fn take_in(semaphore: usize, rest: u8, section: Ticks, most: Ticks, kept: &mut [u32]) -> Ticks
+    requires { ⌜ (length (now kept) ≡ 17) × (semaphore < 17) ⌝ }
+    requires { ⌜ most .0 ≡ largestTo (wordOf (now kept)) 17 ⌝ }
+    ensures { λ r. ⌜ now (kept .exit) ≡ set (now (kept .entry)) semaphore (keptWith rest (section .0) (wordOf (now (kept .entry)) semaphore)) ⌝ }
+    ensures { λ r. ⌜ r .0 ≡ largestTo (wordOf (now (kept .exit))) 17 ⌝ }
+{
+    if rest == 0 {
+        kept[semaphore] = 0;
+        return longest_kept(kept);
+    }
+    kept[semaphore] = larger(Ticks(kept[semaphore]), section).0;
+    larger(most, section)
+}
+
+// B of each of n tasks, of which the last is answered first. Before a task is answered, the rows of all less urgent ones are taken in: `most`
+// is then the longest section whose semaphore a task of at least its priority uses. Once no row is left, no task is blocked.
+pub fn blocking(
     priorities: &[u8],
     places: &[u8],
     semaphores: &[u8],
-    count: usize,
-    owners: &mut [u8],
-    tops: &mut [u8],
-)
-    requires { ⌜ RowsHeld (now priorities) (now places) (now semaphores) count ⌝ }
-    requires { ⌜ (count ≤ length (now owners)) × (count ≤ length (now tops)) ⌝ }
-    ensures { λ _. ⌜ now (owners .exit) ≡ filled (ownerAt (now (priorities .entry)) (now (places .entry))) count (now (owners .entry)) ⌝ }
-    ensures { λ _. ⌜ now (tops .exit) ≡ filled (topAt (now (priorities .entry)) (now (places .entry)) (now (semaphores .entry)) count) count (now (tops .entry)) ⌝ }
-{
-    let found = ceilings(priorities, places, semaphores, count, owners);
-    for k in 0..count {
-        let semaphore = semaphores[k] as usize;
-        tops[k] = found[semaphore];
-    }
-}
-
-// B of a task of that priority: the longest section of a less urgent task whose semaphore's ceiling is at least the priority.
-pub fn blocking(
-    owners: &[u8],
-    tops: &[u8],
     longest: &[u32],
+    n: usize,
     count: usize,
-    priority: Priority,
-) -> Ticks
-    requires { ⌜ (count ≤ length (now owners)) × (count ≤ length (now tops)) ⌝ }
-    requires { ⌜ count ≤ length (now longest) ⌝ }
-    ensures { λ r. ⌜ r .0 ≡ largestTo (sectionAt (now (owners .entry)) (now (tops .entry)) (now (longest .entry)) (priority .0)) count ⌝ }
+    held: &mut [u32],
+)
+    requires { ⌜ RowsHeld (now priorities) (now places) (now semaphores) (now longest) n count ⌝ }
+    requires { ⌜ Zeros (now held) n ⌝ }
+    ensures { λ _. ⌜ now (held .exit) ≡ filled (blockingAt (now (priorities .entry)) (now (places .entry)) (now (semaphores .entry)) (now (longest .entry)) count) n (now (held .entry)) ⌝ }
 {
+    let mut rows = rows_of(semaphores, count);
+    let mut kept = [0u32; 17];
     let mut most = Ticks(0);
-    for k in 0..count {
-        let section = held(
-            Priority(owners[k]),
-            Priority(tops[k]),
-            Ticks(longest[k]),
-            priority,
-        );
-        most = larger(most, section);
+    let mut left = count;
+    let mut i = n;
+    while 0 < i {
+        if left == 0 {
+            return;
+        }
+        let row = left - 1;
+        let place = places[row] as usize;
+        let owner = Priority(priorities[place]);
+        let own = Priority(priorities[i - 1]);
+        if owner.0 < own.0 {
+            let semaphore = semaphores[row] as usize;
+            let rest = rows[semaphore] - 1;
+            rows[semaphore] = rest;
+            most = take_in(semaphore, rest, Ticks(longest[row]), most, &mut kept);
+            left = row;
+            continue;
+        }
+        i -= 1;
+        held[i] = most.0;
     }
-    most
 }

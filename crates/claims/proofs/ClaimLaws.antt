@@ -10,14 +10,13 @@ use lib.Dec.{leb}
 use lib.ListN.{getD}
 use borrow.Author.Tests.{le-leb, lt-leb, leb-true}
 use Rattle.model.specs.Choice.{both}
-use Rattle.model.specs.Lists.{largestTo, wordOf}
+use Rattle.model.specs.Lists.{wordOf}
 use Rattle.model.specs.Tables.{Load}
 use Rattle.model.proofs.Tests.{bool?, clash, refuted, confirmed, both-true, both-pass, both-fail}
 use Rattle.model.proofs.First.{first-none, first-on, first-stop, all-clean, none-found, first-found}
 use Rattle.tables.specs.Refusals.{at}
 use Rattle.equation.specs.Demand.{demand}
 use Rattle.equation.specs.Slices.{loads}
-use Rattle.blocking.specs.Slices.{sectionAt}
 use Rattle.answering.specs.Slices.{Decoded, DecodedFits, GroupFound}
 use Rattle.answering.proofs.AnsweringLaws.{Walking, walking-none, walking-more, walked-all, loads-are}
 use Rattle.claims.specs.declared.Claimed.{Claimed}
@@ -129,13 +128,12 @@ module _ (d : Decoded) (n : ℕ) (claims : List ℕ) where
 
   -- One turn. The test of the code is that of the columns: its loads are those of the group that was found.
   module _ (i beforeEnd beforeSum reached : ℕ) (a : Checking d n claims i beforeEnd beforeSum reached) (h : i < n) (count all end sum : ℕ)
-      (found : GroupFound (d .priorities) (d .costs) n i beforeEnd beforeSum count all end sum) (held : ℕ)
-      (is : held ≡ largestTo (sectionAt (d .owners) (d .tops) (d .longest) (getD (d .priorities) i 0)) (d .rows)) (b : Bool)
-      (tested : b ≡ claimPasses (getD (d .costs) i 0 + held) (loads (d .periods) (d .costs) (d .spreads) i count) (getD (d .latest) i 0)
+      (found : GroupFound (d .priorities) (d .costs) n i beforeEnd beforeSum count all end sum) (b : Bool)
+      (tested : b ≡ claimPasses (getD (d .costs) i 0 + getD (d .held) i 0) (loads (d .periods) (d .costs) (d .spreads) i count) (getD (d .latest) i 0)
       (getD (d .deadlines) i 0) (wordOf claims i)) where
     same-test : b ≡ passesIn d n claims i
     unfolding passesIn
-    same-test = rw (is, loads-are d n i (a .walking .fits) h beforeEnd beforeSum count all end sum found) at tested
+    same-test = rw (loads-are d n i (a .walking .fits) h beforeEnd beforeSum count all end sum found) at tested
 
     pub turn-fails : not b ≡ true → Fails (at i) ≡ comparedOf (passesIn d n claims) n
     turn-fails p = compared-stop (passesIn d n claims) i n (a .passed) (refuted same-test p) h

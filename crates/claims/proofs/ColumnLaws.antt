@@ -1,6 +1,6 @@
 -- The columns that hold a table give the answer for the table that the bytes mean.
 -- Assumes nothing.
-use Prim.Native.Nat.{ℕ, _<_}
+use Prim.Native.Nat.{ℕ, _≤_, _<_}
 use mathlib.Core.Path.{_≡_, refl, sym, _∙_, ap}
 use mathlib.Core.Bool.{Bool}
 use mathlib.Core.List.{List}
@@ -14,8 +14,8 @@ use Rattle.tables.specs.declared.Check.the-variants as check
 use Rattle.tables.specs.Layout.{taskCount, rowCount, tableOf}
 use Rattle.tables.specs.Refusals.{at}
 use Rattle.tables.specs.Checks.{readCheck}
-use Rattle.reading.specs.Columns.{RecordColumn, RowColumn, placeColumn, semaphoreColumn, TableHeld}
-use Rattle.blocking.specs.Slices.{ownerAt, topAt}
+use Rattle.reading.specs.Columns.{RecordColumn, RowColumn, placeColumn, semaphoreColumn, longestColumn, TableHeld}
+use Rattle.blocking.specs.Slices.{blockingAt}
 use Rattle.response.proofs.DecodedLaws.{Ranks, decodedFrom, base-is, loads-agree, latest-is, deadline-is}
 use Rattle.claims.specs.declared.Claimed.{Claimed}
 use Rattle.claims.specs.declared.Claimed.the-variants.{Refused, WrongCount, Pass, Fails}
@@ -41,25 +41,24 @@ compared bytes claims clean counted = rw (clean, eq-eqb (length claims) (taskCou
 module _ (bytes : List ℕ) (records : RecordColumn → List ℕ) (rows : RowColumn → List ℕ) (held : TableHeld 1 bytes records rows)
     (ranks : List ℕ) (ranksHeld : Ranks bytes ranks) (n m : ℕ)
     (tasksCounted : n ≡ taskCount bytes) (rowsCounted : m ≡ rowCount bytes)
-    (owners tops oldOwners oldTops : List ℕ) (ownersLong : length oldOwners ≡ 64) (topsLong : length oldTops ≡ 64)
-    (left : (owners ≡ filled (ownerAt ranks (rows placeColumn)) m oldOwners)
-    × (tops ≡ filled (topAt ranks (rows placeColumn) (rows semaphoreColumn) m) m oldTops)) where
+    (blocked old : List ℕ) (room : n ≤ length old)
+    (left : blocked ≡ filled (blockingAt ranks (rows placeColumn) (rows semaphoreColumn) (rows longestColumn) m) n old) where
   passes-agree : (claims : List ℕ) (i : ℕ) → i < n →
-      passesIn (decodedFrom ranks records rows owners tops m) n claims i ≡ passesAt (tableOf bytes) claims i
+      passesIn (decodedFrom ranks records blocked) n claims i ≡ passesAt (tableOf bytes) claims i
   unfolding passesIn passesAt
   passes-agree claims i h =
       rw (
-        base-is bytes records rows held ranks ranksHeld n m tasksCounted rowsCounted owners tops oldOwners oldTops ownersLong topsLong left i h,
-        loads-agree bytes records rows held ranks ranksHeld n m tasksCounted rowsCounted owners tops oldOwners oldTops ownersLong topsLong left i h,
-        latest-is bytes records rows held ranks ranksHeld n m tasksCounted rowsCounted owners tops oldOwners oldTops ownersLong topsLong left i h,
-        deadline-is bytes records rows held ranks ranksHeld n m tasksCounted rowsCounted owners tops oldOwners oldTops ownersLong topsLong left i h,
+        base-is bytes records rows held ranks ranksHeld n m tasksCounted rowsCounted blocked old room left i h,
+        loads-agree bytes records rows held ranks ranksHeld n m tasksCounted rowsCounted blocked old room left i h,
+        latest-is bytes records rows held ranks ranksHeld n m tasksCounted rowsCounted blocked old room left i h,
+        deadline-is bytes records rows held ranks ranksHeld n m tasksCounted rowsCounted blocked old room left i h,
       )
 
   -- the answer for the columns is that for the bytes
   pub table-checked : (claims : List ℕ) → length claims ≡ taskCount bytes → (claimed : Claimed) →
-      claimed ≡ comparedOf (passesIn (decodedFrom ranks records rows owners tops m) n claims) n → Checked bytes claims claimed
+      claimed ≡ comparedOf (passesIn (decodedFrom ranks records blocked) n claims) n → Checked bytes claims claimed
   table-checked claims counted claimed e =
-      let inColumns = passesIn (decodedFrom ranks records rows owners tops m) n claims in
+      let inColumns = passesIn (decodedFrom ranks records blocked) n claims in
       let inTable = passesAt (tableOf bytes) claims in
       e
       ∙ first-same isPass Pass (failsAt inColumns) (failsAt inTable) n

@@ -13,10 +13,8 @@ ghost use Rattle.claims.specs.Columns.{passesIn};
 ghost use Rattle.claims.specs.Numbers.{codeOf, claimedPlace, packedClaimed, packed};
 use answering::Group;
 use answering::group_of;
-use blocking::blocking;
 use equation::demand;
 use model::Place;
-use model::Priority;
 use model::Ticks;
 use tables::Check;
 use tables::ONE_PERIOD;
@@ -54,7 +52,7 @@ pub fn check_claims(table: &[u8], claims: &[u32]) -> Claimed
     check_table(table, &bytes, &words, claims)
 }
 
-// Checks a claim for each task of a table that the columns hold. The ceilings are found once.
+// Checks a claim for each task of a table that the columns hold. The blocking of all tasks is found first.
 fn check_table(table: &[u8], bytes: &[u8], words: &[u32], claims: &[u32]) -> Claimed
     requires { ⌜ Lent (now table) 32 (now bytes) (now words) ⌝ }
     requires { ⌜ length (now claims) ≡ taskCount (now table) ⌝ }
@@ -66,10 +64,11 @@ fn check_table(table: &[u8], bytes: &[u8], words: &[u32], claims: &[u32]) -> Cla
     // the priorities are the first bytes
     let places = &bytes[32..96];
     let semaphores = &bytes[96..160];
-    let mut owners = [0u8; 64];
-    let mut tops = [0u8; 64];
-    blocking::spans(bytes, places, semaphores, m, &mut owners, &mut tops);
-    // of the words: periods, costs, deadlines, spreads, latest delays; at the end the longest sections
+    // of the words the longest sections are the last
+    let longest = &words[160..224];
+    let mut held = [0u32; 32];
+    blocking::blocking(bytes, places, semaphores, longest, n, m, &mut held);
+    // of the words: periods, costs, deadlines, spreads, latest delays
     check_all(
         bytes,
         &words[0..32],
@@ -78,10 +77,7 @@ fn check_table(table: &[u8], bytes: &[u8], words: &[u32], claims: &[u32]) -> Cla
         &words[96..128],
         &words[128..160],
         n,
-        &owners,
-        &tops,
-        &words[160..224],
-        m,
+        &held,
         claims,
     )
 }
@@ -95,15 +91,12 @@ fn check_all(
     spreads: &[u32],
     latest: &[u32],
     n: usize,
-    owners: &[u8],
-    tops: &[u8],
-    longest: &[u32],
-    m: usize,
+    held: &[u32],
     claims: &[u32],
 ) -> Claimed
-    requires { ⌜ DecodedFits (decoded (now priorities) (now periods) (now costs) (now deadlines) (now spreads) (now latest) (now owners) (now tops) (now longest) m) n ⌝ }
+    requires { ⌜ DecodedFits (decoded (now priorities) (now periods) (now costs) (now deadlines) (now spreads) (now latest) (now held)) n ⌝ }
     requires { ⌜ n ≤ length (now claims) ⌝ }
-    ensures { λ r. ⌜ r ≡ comparedOf (passesIn (decoded (now (priorities .entry)) (now (periods .entry)) (now (costs .entry)) (now (deadlines .entry)) (now (spreads .entry)) (now (latest .entry)) (now (owners .entry)) (now (tops .entry)) (now (longest .entry)) m) n (now (claims .entry))) n ⌝ }
+    ensures { λ r. ⌜ r ≡ comparedOf (passesIn (decoded (now (priorities .entry)) (now (periods .entry)) (now (costs .entry)) (now (deadlines .entry)) (now (spreads .entry)) (now (latest .entry)) (now (held .entry))) n (now (claims .entry))) n ⌝ }
 {
     let mut group = Group {
         count: 0,
@@ -117,8 +110,7 @@ fn check_all(
         reached = Ticks(reached.0 + cost.0);
         group = group_of(priorities, costs, n, group, reached, i);
         let others = Ticks(group.all.0 - cost.0);
-        let held = blocking(owners, tops, longest, m, Priority(priorities[i]));
-        let base = Ticks(cost.0 + held.0);
+        let base = Ticks(cost.0 + held[i]);
         let own_latest = Ticks(latest[i]);
         let deadline = Ticks(deadlines[i]);
         let claim = Ticks(claims[i]);

@@ -5,16 +5,17 @@ use native.Mathlib.Omega.{arith}
 use mathlib.Core.Path.{_≡_, refl, sym, _∙_, ap}
 use mathlib.Core.Bool.{true}
 use mathlib.Core.List.{List}
-use lib.ListN.{length, getD, length-take}
+use lib.ListN.{length, getD, length-take, replicate, length-replicate, getD-replicate}
 use lib.Seq.{getD-take}
-use lib.Dec.{leb}
+use lib.Dec.{leb, ltb}
 use borrow.Author.Tests.{leb-true}
 use Rattle.model.specs.Choice.{both}
 use Rattle.model.specs.Lists.{tabulate, gather, filled, largestTo, largestOf, wordOf}
 use Rattle.model.proofs.Gather.{gather-same}
-use Rattle.model.proofs.Tests.{both-true}
+use Rattle.model.proofs.Lists.{largest-high}
+use Rattle.model.proofs.Tests.{both-true, on-high}
 use Rattle.model.specs.Tables.{Task, Load, taskOf, priorityOf, loadOf, loadFrom, interferes, loadsOf}
-use Rattle.tables.specs.Fields.{taskCountField, rowCountField, periodField, costField, deadlineField, latestField, priorityField, placeField, semaphoreField, longestField}
+use Rattle.tables.specs.Fields.{taskCountField, rowCountField, periodField, costField, deadlineField, latestField, priorityField, placeField, semaphoreField, longestField, orderField}
 use Rattle.tables.specs.Layout.{taskCount, rowCount, taskAt, rowAt, tasksOf, tableOf, priorityIn, placeIn}
 use Rattle.tables.specs.Meaning.{TableRight}
 use Rattle.tables.proofs.LayoutLaws.{layout-sound, task-is, priority-at, tasks-count}
@@ -24,7 +25,8 @@ use Rattle.equation.specs.declared.Start.{Start}
 use Rattle.solver.specs.Marks.{PeriodsHigh}
 use Rattle.equation.specs.Slices.{loadAt}
 use Rattle.blocking.specs.Ceilings.{section, blockingOf}
-use Rattle.blocking.specs.Slices.{ownerAt, topAt, sectionAt, RowsHeld}
+use Rattle.blocking.specs.Slices.{ownerAt, topAt, sectionAt, blockingAt, RowsHeld}
+use Rattle.blocking.specs.Sweep.{Zeros}
 use Rattle.blocking.proofs.CeilingLaws.{blocking-agrees}
 use Rattle.response.specs.Analysis.{baseOf, answerOf, roundsOf}
 use Rattle.answering.specs.Slices.{Decoded, decoded, loadsIn, answerIn, roundsIn, DecodedFits, slice, Answered}
@@ -41,11 +43,10 @@ pub record Ranks (bytes ranks : List ℕ) : Type 0 where
   pub behind : taskCount bytes < length ranks
   pub read : (i : ℕ) → i < taskCount bytes → getD ranks i 0 ≡ priorityIn bytes i
 
--- the columns and what was found for each row, as one decoded table; `ranks` begins with the priorities
-abbrev pub decodedFrom : (ranks : List ℕ) → (RecordColumn → List ℕ) → (RowColumn → List ℕ) → (owners tops : List ℕ) (m : ℕ) → Decoded
-decodedFrom ranks records rows owners tops m =
-    decoded ranks (records periodColumn) (records costColumn) (records deadlineColumn) (records spreadColumn) (records latestColumn) owners tops
-    (rows longestColumn) m
+-- the columns of the records and the blocking of each task, as one decoded table; `ranks` begins with the priorities
+abbrev pub decodedFrom : (ranks : List ℕ) → (RecordColumn → List ℕ) → (blocked : List ℕ) → Decoded
+decodedFrom ranks records blocked =
+    decoded ranks (records periodColumn) (records costColumn) (records deadlineColumn) (records spreadColumn) (records latestColumn) blocked
 
 -- what the test for room says of the tasks that the head counts, and the other way round
 pub room-is : (n k answers rounds : ℕ) → n ≡ k → both (leb n answers) (leb n rounds) ≡ true → (k ≤ answers) × (k ≤ rounds)
@@ -89,41 +90,64 @@ module _ (bytes : List ℕ) (records : RecordColumn → List ℕ) (rows : RowCol
   few-rows : m ≤ 64
   few-rows = omega (arith, right .head .counts rowCountField .high, rowsCounted)
 
-  rows-held : RowsHeld ranks (rows placeColumn) (rows semaphoreColumn) m
+  not-rising : (i : ℕ) → suc i < n → getD ranks (suc i) 0 ≤ getD ranks i 0
+  not-rising i h =
+      rw (ranksHeld .read (suc i) (inside h), ranksHeld .read i (omega (arith, inside h)))
+      (right .records (suc i) (inside h) priorityField .notRising i refl)
+
+  rows-held : RowsHeld ranks (rows placeColumn) (rows semaphoreColumn) (rows longestColumn) n m
   rows-held =
       record {
+        few = omega (arith, few-rows);
+        prioritiesLong = omega (arith, ranksHeld .behind, tasksCounted);
         placesLong = omega (arith, held .ofRows placeColumn .long, rowsCounted);
         semaphoresLong = omega (arith, held .ofRows semaphoreColumn .long, rowsCounted);
-        placesLow = λ k h.
-            rw (held .ofRows placeColumn .read k (row-inside h)) (omega (arith, place-inside k h, ranksHeld .behind, tasksCounted));
+        longestLong = omega (arith, held .ofRows longestColumn .long, rowsCounted);
+        placesLow = λ k h. rw (held .ofRows placeColumn .read k (row-inside h)) (place-inside k h);
         semaphoresLow = λ k h. rw (held .ofRows semaphoreColumn .read k (row-inside h)) (right .rows k (row-inside h) semaphoreField .high);
+        notRising = not-rising;
+        notFalling = λ k h.
+            rw (held .ofRows placeColumn .read (suc k) (row-inside h), held .ofRows placeColumn .read k (omega (arith, row-inside h)))
+            (right .rows (suc k) (row-inside h) orderField k refl .byPlace);
       }
 
   -- no period is above its limit
   pub periods-high : PeriodsHigh (records periodColumn) n
   periods-high k h = rw (held .ofRecords periodColumn .read k (inside h)) (right .records k (inside h) periodField .high)
 
-  -- what the ceilings ask
-  pub may-span : RowsHeld ranks (rows placeColumn) (rows semaphoreColumn) m × ((m ≤ 64) × (m ≤ 64))
-  may-span = (rows-held, (few-rows, few-rows))
+  -- what the sweep asks, of a column of zeros that has a word for each task
+  pub may-sweep : (long : ℕ) → n ≤ long → RowsHeld ranks (rows placeColumn) (rows semaphoreColumn) (rows longestColumn) n m × Zeros (replicate long 0) n
+  may-sweep long room = (
+    rows-held,
+    record {
+      long = omega (arith, length-replicate {A = ℕ} long 0);
+      each = λ i h. getD-replicate {A = ℕ} long i 0 0 (omega arith);
+    },
+  )
 
-  -- and what they leave
-  module _ (owners tops oldOwners oldTops : List ℕ) (ownersLong : length oldOwners ≡ 64) (topsLong : length oldTops ≡ 64)
-      (left : (owners ≡ filled (ownerAt ranks (rows placeColumn)) m oldOwners)
-      × (tops ≡ filled (topAt ranks (rows placeColumn) (rows semaphoreColumn) m) m oldTops)) where
-    ownersHeld : Holds owners m (ownerAt ranks (rows placeColumn))
-    ownersHeld = holds-filled _ _ _ _ (left .0) (omega (arith, few-rows))
+  longest-high : (k : ℕ) → k < m → getD (rows longestColumn) k 0 ≤ 1000000
+  longest-high k h =
+      let row = right .rows k (row-inside h) in
+      rw (held .ofRows longestColumn .read k (row-inside h))
+      (omega (arith, row longestField .high, right .records (placeIn bytes k) (row placeField) costField .high))
 
-    topsHeld : Holds tops m (topAt ranks (rows placeColumn) (rows semaphoreColumn) m)
-    topsHeld = holds-filled _ _ _ _ (left .1) (omega (arith, few-rows))
+  blocking-high : (i : ℕ) → blockingAt ranks (rows placeColumn) (rows semaphoreColumn) (rows longestColumn) m i ≤ 1000000
+  unfolding blockingAt
+  blocking-high i =
+      let p = getD ranks i 0 in
+      largest-high (sectionAt ranks (rows placeColumn) (rows semaphoreColumn) (rows longestColumn) m p) m 1000000
+      (λ k h.
+      let b =
+      both (ltb (ownerAt ranks (rows placeColumn) k) p) (leb p (topAt ranks (rows placeColumn) (rows semaphoreColumn) m k)) in
+      omega (arith, on-high b (getD (rows longestColumn) k 0), longest-high k h))
 
-    longest-high : (k : ℕ) → k < m → getD (rows longestColumn) k 0 ≤ 1000000
-    longest-high k h =
-        let row = right .rows k (row-inside h) in
-        rw (held .ofRows longestColumn .read k (row-inside h))
-        (omega (arith, row longestField .high, right .records (placeIn bytes k) (row placeField) costField .high))
+  -- and what it leaves
+  module _ (blocked old : List ℕ) (room : n ≤ length old)
+      (left : blocked ≡ filled (blockingAt ranks (rows placeColumn) (rows semaphoreColumn) (rows longestColumn) m) n old) where
+    blockedHeld : Holds blocked n (blockingAt ranks (rows placeColumn) (rows semaphoreColumn) (rows longestColumn) m)
+    blockedHeld = holds-filled _ _ _ _ left room
 
-    pub decoded-fits : DecodedFits (decodedFrom ranks records rows owners tops m) n
+    pub decoded-fits : DecodedFits (decodedFrom ranks records blocked) n
     decoded-fits =
         record {
           loadsFit =
@@ -145,43 +169,40 @@ module _ (bytes : List ℕ) (records : RecordColumn → List ℕ) (rows : RowCol
                 prioritiesLong = omega (arith, ranksHeld .behind, tasksCounted);
                 costsLong = omega (arith, held .ofRecords costColumn .long, tasksCounted);
                 costHigh = λ k h. rw (held .ofRecords costColumn .read k (inside h)) (right .records k (inside h) costField .high);
-                notRising = λ k h.
-                    rw (ranksHeld .read (suc k) (inside h), ranksHeld .read k (omega (arith, inside h)))
-                    (right .records (suc k) (inside h) priorityField .notRising k refl);
+                notRising = not-rising;
               };
           deadlinesLong = omega (arith, held .ofRecords deadlineColumn .long, tasksCounted);
           latestLong = omega (arith, held .ofRecords latestColumn .long, tasksCounted);
-          ownersLong = ownersHeld .long;
-          topsLong = topsHeld .long;
-          longestLong = omega (arith, held .ofRows longestColumn .long, rowsCounted);
+          heldLong = blockedHeld .long;
           costLow = λ i h. rw (held .ofRecords costColumn .read i (inside h)) (right .records i (inside h) costField .low);
           deadlineHigh = λ i h.
               let numbers = right .records i (inside h) in
               rw (held .ofRecords deadlineColumn .read i (inside h)) (omega (arith, numbers deadlineField .high, numbers periodField .high));
           latestHigh = λ i h. rw (held .ofRecords latestColumn .read i (inside h)) (right .records i (inside h) latestField .high);
-          longestHigh = longest-high;
+          heldHigh = λ i h. rw (blockedHeld .read i h) (blocking-high i);
         }
 
     module _ (i : ℕ) (h : i < n) where
       own : taskOf (tasksOf bytes) i ≡ taskAt bytes i
       own = task-is bytes i (inside h)
 
-      blocking-is : largestTo (sectionAt owners tops (rows longestColumn) (getD ranks i 0)) m ≡ blockingOf (tableOf bytes) i
-      unfolding blockingOf
+      blocking-is : getD blocked i 0 ≡ blockingOf (tableOf bytes) i
+      unfolding blockingAt blockingOf
       blocking-is =
-          ap (λ (p : ℕ). largestTo (sectionAt owners tops (rows longestColumn) p) m)
+          blockedHeld .read i h
+          ∙ ap (λ (p : ℕ). largestTo (sectionAt ranks (rows placeColumn) (rows semaphoreColumn) (rows longestColumn) m p) m)
           (ranksHeld .read i (inside h) ∙ sym (priority-at bytes i (inside h)))
           ∙ blocking-agrees (tasksOf bytes) (rowAt bytes) m ranks (rows placeColumn) (rows semaphoreColumn) (rows longestColumn)
           (λ k l. held .ofRows placeColumn .read k (row-inside l)) (λ k l. held .ofRows semaphoreColumn .read k (row-inside l)) (λ k l. held .ofRows longestColumn .read k (row-inside l))
           (λ k l.
           ranksHeld .read (placeIn bytes k) (inside (place-inside k l))
           ∙ sym (priority-at bytes (placeIn bytes k) (inside (place-inside k l))))
-          owners tops (ownersHeld .read) (topsHeld .read) (taskOf (tasksOf bytes) i .priority)
+          (taskOf (tasksOf bytes) i .priority)
           ∙ ap
           (λ (c : ℕ). largestOf (section (tasksOf bytes) (tabulate (rowAt bytes) c) (taskOf (tasksOf bytes) i .priority)) (tabulate (rowAt bytes) c))
           rowsCounted
 
-      pub base-is : getD (records costColumn) i 0 + largestTo (sectionAt owners tops (rows longestColumn) (getD ranks i 0)) m ≡ baseOf (tableOf bytes) i
+      pub base-is : getD (records costColumn) i 0 + getD blocked i 0 ≡ baseOf (tableOf bytes) i
       base-is =
           let cost : getD (records costColumn) i 0 ≡ taskOf (tasksOf bytes) i .cost =
           held .ofRecords costColumn .read i (inside h) ∙ sym (ap (λ (t : Task). t .cost) own) in
@@ -190,7 +211,7 @@ module _ (bytes : List ℕ) (records : RecordColumn → List ℕ) (rows : RowCol
       priority-is : (k : ℕ) → k < n → getD ranks k 0 ≡ priorityOf (tasksOf bytes) k
       priority-is k l = ranksHeld .read k (inside l) ∙ sym (priority-at bytes k (inside l))
 
-      pub loads-agree : loadsIn (decodedFrom ranks records rows owners tops m) n i ≡ loadsOf (tasksOf bytes) i
+      pub loads-agree : loadsIn (decodedFrom ranks records blocked) n i ≡ loadsOf (tasksOf bytes) i
       loads-agree =
           gather-same (interferes (wordOf ranks) i) (interferes (priorityOf (tasksOf bytes)) i)
           (loadAt (records periodColumn) (records costColumn) (records spreadColumn)) (loadFrom (tasksOf bytes)) n
@@ -209,20 +230,20 @@ module _ (bytes : List ℕ) (records : RecordColumn → List ℕ) (rows : RowCol
       pub deadline-is : getD (records deadlineColumn) i 0 ≡ taskOf (tasksOf bytes) i .deadline
       deadline-is = held .ofRecords deadlineColumn .read i (inside h) ∙ sym (ap (λ (t : Task). t .deadline) own)
 
-      answer-agrees : answerIn (decodedFrom ranks records rows owners tops m) n i ≡ answerOf (tableOf bytes) i
+      answer-agrees : answerIn (decodedFrom ranks records blocked) n i ≡ answerOf (tableOf bytes) i
       unfolding answerIn answerOf
       answer-agrees = rw (base-is, loads-agree, latest-is, deadline-is)
 
       rounds-agree : (start : Start) →
-          roundsIn start (decodedFrom ranks records rows owners tops m) n i ≡ roundsOf start (tableOf bytes) i
+          roundsIn start (decodedFrom ranks records blocked) n i ≡ roundsOf start (tableOf bytes) i
       unfolding roundsIn roundsOf
       rounds-agree start = rw (base-is, loads-agree, latest-is, deadline-is)
 
     -- the answers of the columns are the outcome for the bytes
     pub table-answered : (start : Start) (answers rounds : List ℕ) → (n ≤ length answers) × (n ≤ length rounds) → (v : Verdict)
         (answersLeft roundsLeft : List ℕ) →
-        Answered start (decodedFrom ranks records rows owners tops m) n v (slice answers answersLeft) (slice rounds roundsLeft) →
+        Answered start (decodedFrom ranks records blocked) n v (slice answers answersLeft) (slice rounds roundsLeft) →
         Outcome start (lending bytes answers rounds) (leaving v answersLeft roundsLeft)
     table-answered start answers rounds room v answersLeft roundsLeft a =
-        answered start bytes answers rounds (held .clean) n tasksCounted (room .0) (room .1) (decodedFrom ranks records rows owners tops m) v
+        answered start bytes answers rounds (held .clean) n tasksCounted (room .0) (room .1) (decodedFrom ranks records blocked) v
         answersLeft roundsLeft a answer-agrees (λ i h. rounds-agree i h start)

@@ -87,7 +87,7 @@ fn room(n: usize, answers: usize, rounds: usize) -> bool
     n <= rounds
 }
 
-// Answers a table that the columns hold, in slices that have room. The ceilings are found once.
+// Answers a table that the columns hold, in slices that have room. The blocking of all tasks is found first.
 fn answer(
     start: Start,
     table: &[u8],
@@ -106,12 +106,13 @@ fn answer(
     // the priorities are the first bytes
     let places = &bytes[32..96];
     let semaphores = &bytes[96..160];
-    let mut owners = [0u8; 64];
-    let mut tops = [0u8; 64];
-    blocking::spans(bytes, places, semaphores, m, &mut owners, &mut tops);
+    // of the words the longest sections are the last
+    let longest = &words[160..224];
+    let mut held = [0u32; 32];
+    blocking::blocking(bytes, places, semaphores, longest, n, m, &mut held);
     // a mark for each of 32 tasks, and one more
     let mut marks = [0u32; 33];
-    // of the words: periods, costs, deadlines, spreads, latest delays; at the end the longest sections
+    // of the words: periods, costs, deadlines, spreads, latest delays
     answer_all(
         start,
         bytes,
@@ -121,10 +122,7 @@ fn answer(
         &words[96..128],
         &words[128..160],
         n,
-        &owners,
-        &tops,
-        &words[160..224],
-        m,
+        &held,
         answers,
         rounds,
         &mut marks,
