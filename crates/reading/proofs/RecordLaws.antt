@@ -15,16 +15,18 @@ use Rattle.model.specs.Tables.{Task}
 use Rattle.model.specs.Search.{firstOf}
 use Rattle.model.proofs.First as first-laws
 use Rattle.model.proofs.Tests.{ltb?, both-pass, both-fail}
+use Rattle.tables.specs.declared.layout.DelayFields.{DelayFields}
+use Rattle.tables.specs.declared.layout.DelayFields.the-variants.{Jitter, Pair}
 use Rattle.tables.specs.declared.layout.Layout.{Layout}
 use Rattle.tables.specs.declared.Refusal.the-variants.{NumberOutOfRange}
 use Rattle.tables.specs.declared.Check.{Check}
 use Rattle.tables.specs.declared.Check.the-variants.{Clean, Refused}
-use Rattle.tables.specs.Layout.{layoutOf, taskCount, recordStart, recordFrom, taskAt, priorityIn}
+use Rattle.tables.specs.Layout.{wordAt, jitterAt, earliestFrom, layoutOf, taskCount, recordStart, recordFrom, taskAt, priorityIn}
 use Rattle.tables.specs.Refusals.{isClean, offset, fieldsCheck}
 use Rattle.tables.specs.Fields.{periodField, costField, deadlineField, earliestField, latestField, recordOrder, recordRefusal}
 use Rattle.tables.specs.Rules.{between, priorityFits, longestDeadline, recordTest}
 use Rattle.tables.specs.Checks.{recordCheck, recordsCheck, recordsRead}
-use Rattle.reading.specs.Reading.{HeadRead, delayAt, atRecord, recordFault}
+use Rattle.reading.specs.Reading.{HeadRead, earliestOf, delayAt, atRecord, recordFault}
 use Rattle.tables.proofs.LayoutLaws.{next-start, record-inside, start-small}
 use Rattle.tables.proofs.FieldLaws.{clean-only, stops-at, goes-on, goes-through, tests-fail, tests-passed}
 use Rattle.tables.proofs.MeaningLaws.{between-means, between-holds}
@@ -161,3 +163,9 @@ module _ (span : ℕ) (bytes : List ℕ) (layout : Layout) (n : ℕ) where
       (Clean ≡ recordsCheck span bytes) × (recordsRead span bytes ≡ i)
   unfolding recordsCheck
   reading-all {i} r h = goes-through (recordCheck span bytes) i (r .clean) (taskCount bytes) (omega (arith, r .head .counted, r .within))
+
+-- the first of the delays' words is the earliest delay, or J
+pub earliest-is : (fields : DelayFields) (bytes : List ℕ) (at : ℕ) {first : ℕ} → first ≡ wordAt bytes (at + jitterAt) →
+    earliestOf fields first ≡ earliestFrom fields bytes at
+earliest-is Jitter bytes at e = refl
+earliest-is Pair bytes at e = e

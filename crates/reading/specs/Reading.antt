@@ -16,6 +16,7 @@ use Rattle.model.specs.Choice.{pick}
 use Rattle.model.specs.Tables.{Task, Row}
 use Rattle.tables.specs.declared.layout.Layout.{Layout}
 use Rattle.tables.specs.declared.layout.DelayFields.{DelayFields}
+use Rattle.tables.specs.declared.layout.DelayFields.the-variants.{Jitter, Pair}
 use Rattle.reading.specs.declared.records.TaskRecord.{TaskRecord}
 use Rattle.reading.specs.declared.rows.RowRecord.{RowRecord}
 use Rattle.tables.specs.declared.Check.{Check}
@@ -42,6 +43,11 @@ taskFrom r =
       earliest = r .earliest .0;
       latest = r .latest .0;
     }
+
+-- the earliest delay, of the first of the delays' words
+abbrev pub earliestOf : DelayFields → ℕ → ℕ
+earliestOf Jitter first = 0
+earliestOf Pair first = first
 
 -- where the delay begins that is at fault, in its record: the earliest, if that is out of range
 abbrev pub delayAt : DelayFields → ℕ → ℕ

@@ -2,11 +2,11 @@
 ghost use mathlib.Core.Path.{_≡_};
 ghost use Prim.Native.Nat.{_+_, _*_, _≤_, _<_};
 ghost use lib.ListN.{length};
-ghost use Rattle.tables.specs.Layout.{Sound, latestAt, earliestFrom, recordFrom};
+ghost use Rattle.tables.specs.Layout.{Sound, wordAt, jitterAt, latestAt, recordFrom};
 ghost use Rattle.tables.specs.Rules.{longestDeadline};
 ghost use Rattle.tables.specs.Checks.{recordsCheck, recordsRead};
 ghost use Rattle.reading.specs.Columns.{recordColumns, rowColumns, recordIn, rowIn, Lent, Filled};
-ghost use Rattle.reading.specs.Reading.{HeadRead, taskFrom, delayAt, atRecord, recordFault};
+ghost use Rattle.reading.specs.Reading.{HeadRead, taskFrom, earliestOf, delayAt, atRecord, recordFault};
 use model::Priority;
 use model::Ticks;
 use tables::COST_AT;
@@ -51,14 +51,24 @@ fn latest_at(fields: DelayFields) -> usize
     }
 }
 
-// The earliest delay of the record that begins at `at`: 0 where there is J alone (SPECIFICATION 2.3; document 02, L4).
-fn earliest(table: &[u8], fields: DelayFields, at: usize) -> Ticks
-    requires { ⌜ at + 17 ≤ length (now table) ⌝ }
-    ensures { λ r. ⌜ r .0 ≡ earliestFrom fields (now (table .entry)) at ⌝ }
+// The earliest delay, where the first of the delays' words is this: 0 where there is J alone (SPECIFICATION 2.3; document 02, L4).
+fn earliest(fields: DelayFields, first: Ticks) -> Ticks
+    ensures { λ r. ⌜ r .0 ≡ earliestOf fields (first .0) ⌝ }
 {
     match fields {
         DelayFields::Jitter => Ticks(0),
-        DelayFields::Pair => Ticks(word(table, at + EARLIEST_AT)),
+        DelayFields::Pair => first,
+    }
+}
+
+// The latest delay of the record that begins at `at`, where the first of the delays' words is this.
+fn latest(table: &[u8], fields: DelayFields, at: usize, first: Ticks) -> Ticks
+    requires { ⌜ (at + latestAt fields + 4 ≤ length (now table)) × (first .0 ≡ wordAt (now table) (at + jitterAt)) ⌝ }
+    ensures { λ r. ⌜ r .0 ≡ wordAt (now (table .entry)) (at + latestAt fields) ⌝ }
+{
+    match fields {
+        DelayFields::Jitter => first,
+        DelayFields::Pair => Ticks(word(table, at + LATEST_AT)),
     }
 }
 
@@ -70,15 +80,16 @@ pub fn read(table: &[u8], layout: Layout, at: usize) -> TaskRecord
     ensures { λ r. ⌜ r .priority .0 < 256 ⌝ }
 {
     let fields = layout.delays;
-    // the earliest first: its jump would part the bytes of the others from where they are put together (docs/PERFORMANCE.md)
-    let first = earliest(table, fields, at);
+    // the delays first: their jump would part the bytes of the others from where they are put together (docs/PERFORMANCE.md)
+    let first = Ticks(word(table, at + JITTER_AT));
+    let last = latest(table, fields, at, first);
     TaskRecord {
         priority: Priority(table[at + PRIORITY_AT]),
         period: Ticks(word(table, at + PERIOD_AT)),
         cost: Ticks(word(table, at + COST_AT)),
         deadline: Ticks(word(table, at + DEADLINE_AT)),
-        earliest: first,
-        latest: Ticks(word(table, at + latest_at(fields))),
+        earliest: earliest(fields, first),
+        latest: last,
     }
 }
 
