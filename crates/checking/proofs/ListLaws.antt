@@ -5,7 +5,7 @@ use native.Mathlib.Omega.{arith}
 use native.Mathlib.Decide.{decLe}
 use mathlib.Core.Path.{_≡_, refl, sym, _∙_, ap}
 use mathlib.Core.Bool.{true}
-use mathlib.Core.List.{List, _++_}
+use mathlib.Core.List.{List, _++_, flatten}
 use lib.ListN.{length, take, drop, length-take}
 use lib.Seq.{take-all, take-append-seam}
 use Rattle.tables.specs.declared.Check.{Check}
@@ -23,7 +23,7 @@ use Rattle.scanning.specs.declared.State.the-variants.{Outside, Inside, Stuck}
 use Rattle.scanning.specs.declared.Scan.{Scan}
 use Rattle.scanning.specs.Reading.{Reading, numbers, unreadable, readingOf}
 use Rattle.scanning.specs.Read.{scannedFor, wordsAfter}
-use Rattle.scanning.specs.Pieces.{stuck, answerOf, answerAt, wordsAt, Ended, Gone, gone, joined, allThrough}
+use Rattle.scanning.specs.Pieces.{stuck, answerOf, answerAt, wordsAt, Ended, Gone, gone, allThrough}
 use Rattle.scanning.proofs.PieceLaws.{piecesRight}
 use Rattle.checking.specs.Text.{claimedLine, unreadableLine, textFor, checkText}
 use Rattle.checking.specs.Pieces.{wordsKept, lineFor, lineAfter, AnyPieces}
@@ -94,7 +94,7 @@ pub anyPieces : AnyPieces
 anyPieces =
     record {
       whole = λ old bytes pieces long.
-          line-read (joined pieces) bytes (allThrough old pieces) (piecesRight .answers old pieces) old long (piecesRight .keeps old pieces);
+          line-read (flatten pieces) bytes (allThrough old pieces) (piecesRight .answers old pieces) old long (piecesRight .keeps old pieces);
       early = λ old bytes pieces more h.
-          line-stuck (joined (pieces ++ more)) bytes (allThrough old pieces) (piecesRight .early old pieces more h) h;
+          line-stuck (flatten (pieces ++ more)) bytes (allThrough old pieces) (piecesRight .early old pieces more h) h;
     }

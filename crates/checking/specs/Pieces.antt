@@ -3,11 +3,11 @@
 use Prim.Native.Nat.{ℕ, min}
 use mathlib.Core.Path.{_≡_}
 use mathlib.Core.Bool.{true}
-use mathlib.Core.List.{List, _++_}
+use mathlib.Core.List.{List, _++_, flatten}
 use lib.ListN.{length, take}
 use Rattle.scanning.specs.declared.Scanned.{Scanned}
 use Rattle.scanning.specs.declared.Scanned.the-variants.{Numbers, Unreadable}
-use Rattle.scanning.specs.Pieces.{stuck, answerAt, wordsAt, Gone, joined, allThrough}
+use Rattle.scanning.specs.Pieces.{stuck, answerAt, wordsAt, Gone, allThrough}
 use Rattle.claims.specs.Claims.{claimedOf}
 use Rattle.checking.specs.Text.{claimedLine, unreadableLine, checkText}
 
@@ -27,7 +27,7 @@ lineAfter known bytes = lineFor (answerAt (known .scan)) (wordsAt (known .scan) 
 -- For any table and any pieces of any list. The proof is in proofs/ListLaws.antt.
 pub record AnyPieces : Type 0 where
   pub whole : (old bytes : List ℕ) (pieces : List (List ℕ)) → length old ≡ wordsKept →
-      lineAfter (allThrough old pieces) bytes ≡ checkText (joined pieces) bytes
+      lineAfter (allThrough old pieces) bytes ≡ checkText (flatten pieces) bytes
   -- where something can't be read, the line is known before the rest of the list is
   pub early : (old bytes : List ℕ) (pieces more : List (List ℕ)) → stuck (allThrough old pieces .scan .state) ≡ true →
-      lineAfter (allThrough old pieces) bytes ≡ checkText (joined (pieces ++ more)) bytes
+      lineAfter (allThrough old pieces) bytes ≡ checkText (flatten (pieces ++ more)) bytes

@@ -7,7 +7,7 @@ use native.Mathlib.Numerals.{add-one}
 use mathlib.Core.Path.{_≡_, refl, sym, _∙_, ap}
 use mathlib.Core.Bool.{true}
 use mathlib.Core.Logic.{inl, inr}
-use mathlib.Core.List.{List, [], _∷_, _++_, append-nil, append-assoc}
+use mathlib.Core.List.{List, [], _∷_, _++_, flatten, append-nil, append-assoc}
 use lib.Dec.{leb}
 use lib.ListN.{length, take, getD, length-append, length-take}
 use lib.Seq.{sets, take-suc, take-all, length-sets}
@@ -19,7 +19,7 @@ use Rattle.scanning.specs.declared.Scan.{Scan}
 use Rattle.scanning.specs.Reading.{numbers, largest, isDigit, isSeparator, readingOf}
 use Rattle.scanning.specs.Read.{placeAt, scannedFor, wordsAfter}
 use Rattle.scanning.specs.Steps.{withValue, afterOf, endedBy, Kept}
-use Rattle.scanning.specs.Pieces.{stateAfter, endedIn, start, scanAfter, keptAfter, More, behind, Within, stuck, answerOf, answerAt, wordsAt, Ended, Gone, gone, through, joined, PiecesRight}
+use Rattle.scanning.specs.Pieces.{stateAfter, endedIn, start, scanAfter, keptAfter, More, behind, Within, stuck, answerOf, answerAt, wordsAt, Ended, Gone, gone, through, PiecesRight}
 use Rattle.scanning.proofs.WordLaws.{sets-more, sets-all}
 use Rattle.scanning.proofs.StepLaws.{prependAll, prepend-append, onward, endOf, onward-end, onward-step, answer-is, found-all, ended-few, ended-then}
 
@@ -186,13 +186,13 @@ kept-append scan xs ys words =
     rw (ended-append (scan .state) (scan .at .0) xs ys)
     (sets-more words (scan .count) (endedIn (scan .state) (scan .at .0) xs) (endedIn (stateAfter (scan .state) (scan .at .0) xs) (scan .at .0 + length xs) ys))
 
-one-piece : (before : Gone) (pieces : List (List ℕ)) → through before pieces ≡ through before (joined pieces ∷ [])
-unfolding through joined stateAfter endedIn
+one-piece : (before : Gone) (pieces : List (List ℕ)) → through before pieces ≡ through before (flatten pieces ∷ [])
+unfolding through flatten stateAfter endedIn
 one-piece before [] = rw (add-zero (before .scan .at .0), add-zero (before .scan .count))
 one-piece before (piece ∷ pieces) =
     one-piece (gone (scanAfter (before .scan) piece) (keptAfter (before .scan) piece (before .words))) pieces
-    ∙ ap (λ (s : Scan). gone s (keptAfter (scanAfter (before .scan) piece) (joined pieces) (keptAfter (before .scan) piece (before .words)))) (scan-append (before .scan) piece (joined pieces))
-    ∙ ap (gone (scanAfter (before .scan) (piece ++ joined pieces))) (kept-append (before .scan) piece (joined pieces) (before .words))
+    ∙ ap (λ (s : Scan). gone s (keptAfter (scanAfter (before .scan) piece) (flatten pieces) (keptAfter (before .scan) piece (before .words)))) (scan-append (before .scan) piece (flatten pieces))
+    ∙ ap (gone (scanAfter (before .scan) (piece ++ flatten pieces))) (kept-append (before .scan) piece (flatten pieces) (before .words))
 
 -- the state behind all of a text, and the numbers that end in it or with it
 module _ (text : List ℕ) where
@@ -241,23 +241,23 @@ stuck-piece scan piece h =
     rw (stuck-state (scan .state) (scan .at .0) piece h)
     (stuck-answer (scan .state) _ _ h)
 
-joined-append : (pieces more : List (List ℕ)) → joined (pieces ++ more) ≡ joined pieces ++ joined more
-unfolding joined
-joined-append [] more = refl
-joined-append (piece ∷ pieces) more =
-    ap (λ (rest : List ℕ). piece ++ rest) (joined-append pieces more) ∙ sym (append-assoc piece (joined pieces) (joined more))
+flatten-append : (pieces more : List (List ℕ)) → flatten (pieces ++ more) ≡ flatten pieces ++ flatten more
+unfolding flatten
+flatten-append [] more = refl
+flatten-append (piece ∷ pieces) more =
+    ap (λ (rest : List ℕ). piece ++ rest) (flatten-append pieces more) ∙ sym (append-assoc piece (flatten pieces) (flatten more))
 
 pub piecesRight : PiecesRight
 unfolding through
 piecesRight =
     record {
       joins = λ old pieces. one-piece (gone start old) pieces;
-      answers = λ old pieces. rw (one-piece (gone start old) pieces) (answer-all (joined pieces));
+      answers = λ old pieces. rw (one-piece (gone start old) pieces) (answer-all (flatten pieces));
       early = λ old pieces more h.
-          rw (one-piece (gone start old) pieces, joined-append pieces more)
-          (stuck-piece (scanAfter start (joined pieces)) (joined more) (rw (one-piece (gone start old) pieces) at h)
-          ∙ ap answerAt (scan-append start (joined pieces) (joined more))
-          ∙ answer-all (joined pieces ++ joined more));
-      keeps = λ old pieces values e. rw (one-piece (gone start old) pieces) (keep-all (joined pieces) old values e);
-      fits = λ old pieces more h. rw (one-piece (gone start old) pieces) (within-more start (joined pieces) more within-start (omega (arith, h)));
+          rw (one-piece (gone start old) pieces, flatten-append pieces more)
+          (stuck-piece (scanAfter start (flatten pieces)) (flatten more) (rw (one-piece (gone start old) pieces) at h)
+          ∙ ap answerAt (scan-append start (flatten pieces) (flatten more))
+          ∙ answer-all (flatten pieces ++ flatten more));
+      keeps = λ old pieces values e. rw (one-piece (gone start old) pieces) (keep-all (flatten pieces) old values e);
+      fits = λ old pieces more h. rw (one-piece (gone start old) pieces) (within-more start (flatten pieces) more within-start (omega (arith, h)));
     }

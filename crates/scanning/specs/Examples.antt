@@ -3,10 +3,9 @@
 -- Assumes nothing.
 use Prim.Native.Nat.{ℕ}
 use mathlib.Core.Path.{_≡_}
-use mathlib.Core.List.{List, [], _∷_, map}
+use mathlib.Core.List.{List, [], _∷_, map, flatten}
 use Rattle.printing.specs.Text.{bytesOf}
 use Rattle.scanning.specs.Reading.{Reading, numbers, unreadable, readingOf}
-use Rattle.scanning.specs.Pieces.{joined}
 
 pub record Example : Type 0 where
   pub text : List ℕ
@@ -46,7 +45,7 @@ examples =
     ∷ reads (32 ∷ 0 ∷ []) (unreadable 1)
     ∷ reads (49 ∷ 10 ∷ 255 ∷ []) (unreadable 2)
     -- pieces, one of them empty, and a number that is cut in two
-    ∷ reads (joined (bytesOf "4" ∷ bytesOf "2," ∷ bytesOf "" ∷ bytesOf "7" ∷ [])) (numbers (42 ∷ 7 ∷ []))
+    ∷ reads (flatten (bytesOf "4" ∷ bytesOf "2," ∷ bytesOf "" ∷ bytesOf "7" ∷ [])) (numbers (42 ∷ 7 ∷ []))
     ∷ []
 
 abbrev pub readingFound : Example → Reading

@@ -3,7 +3,7 @@
 use Prim.Native.Nat.{ℕ, suc, _+_, _≤_, _<_}
 use mathlib.Core.Path.{_≡_}
 use mathlib.Core.Bool.{Bool, true, false}
-use mathlib.Core.List.{List, [], _∷_, _++_}
+use mathlib.Core.List.{List, [], _∷_, _++_, flatten}
 use lib.ListN.{length}
 use lib.Seq.{sets}
 use Rattle.scanning.specs.declared.Scanned.{Scanned}
@@ -99,26 +99,22 @@ through before [] = before
 through before (piece ∷ pieces) =
     through (gone (scanAfter (before .scan) piece) (keptAfter (before .scan) piece (before .words))) pieces
 
-unfoldable pub joined : List (List ℕ) → List ℕ
-joined [] = []
-joined (piece ∷ pieces) = piece ++ joined pieces
-
 abbrev pub allThrough : List ℕ → List (List ℕ) → Gone
 allThrough old pieces = through (gone start old) pieces
 
 -- For any pieces and any words. The proof is in proofs/PieceLaws.antt.
 pub record PiecesRight : Type 0 where
   -- where the text is cut makes no difference
-  pub joins : (old : List ℕ) (pieces : List (List ℕ)) → allThrough old pieces ≡ allThrough old (joined pieces ∷ [])
+  pub joins : (old : List ℕ) (pieces : List (List ℕ)) → allThrough old pieces ≡ allThrough old (flatten pieces ∷ [])
   -- the answer is that for what the text is read as
   pub answers : (old : List ℕ) (pieces : List (List ℕ)) →
-      answerAt (allThrough old pieces .scan) ≡ scannedFor (readingOf (joined pieces))
+      answerAt (allThrough old pieces .scan) ≡ scannedFor (readingOf (flatten pieces))
   -- also where it is known before the text's end: what comes behind something that can't be read makes no difference
   pub early : (old : List ℕ) (pieces more : List (List ℕ)) → stuck (allThrough old pieces .scan .state) ≡ true →
-      answerAt (allThrough old pieces .scan) ≡ scannedFor (readingOf (joined (pieces ++ more)))
+      answerAt (allThrough old pieces .scan) ≡ scannedFor (readingOf (flatten (pieces ++ more)))
   -- and the words of a text that can be read hold its numbers
-  pub keeps : (old : List ℕ) (pieces : List (List ℕ)) (values : List ℕ) → readingOf (joined pieces) ≡ numbers values →
+  pub keeps : (old : List ℕ) (pieces : List (List ℕ)) (values : List ℕ) → readingOf (flatten pieces) ≡ numbers values →
       wordsAt (allThrough old pieces .scan) (allThrough old pieces .words) ≡ wordsAfter (numbers values) old
   -- places and counts fit into the machine's words as long as the text's length does
-  pub fits : (old : List ℕ) (pieces : List (List ℕ)) (more : ℕ) → length (joined pieces) + more < 18446744073709551616 →
+  pub fits : (old : List ℕ) (pieces : List (List ℕ)) (more : ℕ) → length (flatten pieces) + more < 18446744073709551616 →
       Within (allThrough old pieces .scan) more

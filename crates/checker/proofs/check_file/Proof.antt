@@ -1,7 +1,6 @@
 -- `checker::check_file` is safe and ends: what is known of the list is what the check asks for.
 -- Assumes nothing.
 use borrow.Author.Needs.{needs}
-use borrow.Author.Needs.{needs}
 use Rattle.checker.proofs.check_file.Statement.{statement}
 use Rattle.checker.proofs.check_file.Tie as tie
 
@@ -26,6 +25,12 @@ enum-told c = search needs
 fail-requires-2 : tie.Need-fail-requires-2
 fail-requires-2 c κs = search needs
 
+enum-told-2 : tie.Need-enum-told-2
+enum-told-2 c = search needs
+
+say-too-long-requires : tie.Need-say-too-long-requires
+say-too-long-requires c κs = search needs
+
 enum-known-list : tie.Need-enum-known-list
 enum-known-list c = search needs
 
@@ -33,7 +38,7 @@ slice-aggregate-check-input : tie.Need-slice-aggregate-check-input
 slice-aggregate-check-input c = search needs
 
 check-input-requires : tie.Need-check-input-requires
-check-input-requires c κs = (rw (c .before .before .list .given .1) at (c .before .before .before .before .before .read-list .ensures), c .before .before .before .before .before .read-list .kept .1 .0)
+check-input-requires c κs = rw (c .before .before .list .given .1) at (c .before .before .before .before .before .read-list .ensures)
 
 close-requires : tie.Need-close-requires
 close-requires c κs = search needs
@@ -52,6 +57,8 @@ check-file-spec =
     read-list-requires
     enum-told
     fail-requires-2
+    enum-told-2
+    say-too-long-requires
     enum-known-list
     slice-aggregate-check-input
     check-input-requires

@@ -2,7 +2,6 @@
 -- Assumes nothing.
 use Rattle.printing.proofs.LongestLaws.{whole-within, whole-part}
 use borrow.Author.Needs.{needs}
-use borrow.Author.Needs.{needs}
 use Rattle.checker.proofs.check_input.Statement.{statement}
 use Rattle.checker.proofs.check_input.Tie as tie
 
