@@ -11,11 +11,11 @@ use Rattle.model.specs.Lists.{filled}
 use Rattle.model.proofs.First.{first-same}
 use Rattle.tables.specs.declared.Refusal.{Refusal}
 use Rattle.tables.specs.declared.Check.the-variants as check
-use Rattle.tables.specs.Layout.{taskCount, rowCount, tableOf}
+use Rattle.tables.specs.Layout.{taskCount, tableOf}
 use Rattle.tables.specs.Refusals.{at}
 use Rattle.tables.specs.Checks.{readCheck}
-use Rattle.reading.specs.Columns.{RecordColumn, RowColumn, placeColumn, semaphoreColumn, longestColumn, TableHeld}
-use Rattle.blocking.specs.Slices.{blockingAt}
+use Rattle.reading.specs.Columns.{RecordColumn, RowColumn, TableHeld}
+use Rattle.blocking.specs.Ceilings.{blockingOf}
 use Rattle.response.proofs.DecodedLaws.{Ranks, decodedFrom, base-is, loads-agree, latest-is, deadline-is}
 use Rattle.claims.specs.declared.Claimed.{Claimed}
 use Rattle.claims.specs.declared.Claimed.the-variants.{Refused, WrongCount, Pass, Fails}
@@ -39,19 +39,18 @@ unfolding claimedOf
 compared bytes claims clean counted = rw (clean, eq-eqb (length claims) (taskCount bytes) counted)
 
 module _ (bytes : List ℕ) (records : RecordColumn → List ℕ) (rows : RowColumn → List ℕ) (held : TableHeld 1 bytes records rows)
-    (ranks : List ℕ) (ranksHeld : Ranks bytes ranks) (n m : ℕ)
-    (tasksCounted : n ≡ taskCount bytes) (rowsCounted : m ≡ rowCount bytes)
+    (ranks : List ℕ) (ranksHeld : Ranks bytes ranks) (n : ℕ) (tasksCounted : n ≡ taskCount bytes)
     (blocked old : List ℕ) (room : n ≤ length old)
-    (left : blocked ≡ filled (blockingAt ranks (rows placeColumn) (rows semaphoreColumn) (rows longestColumn) m) n old) where
+    (left : blocked ≡ filled (blockingOf (tableOf bytes)) (taskCount bytes) old) where
   passes-agree : (claims : List ℕ) (i : ℕ) → i < n →
       passesIn (decodedFrom ranks records blocked) n claims i ≡ passesAt (tableOf bytes) claims i
   unfolding passesIn passesAt
   passes-agree claims i h =
       rw (
-        base-is bytes records rows held ranks ranksHeld n m tasksCounted rowsCounted blocked old room left i h,
-        loads-agree bytes records rows held ranks ranksHeld n m tasksCounted rowsCounted blocked old room left i h,
-        latest-is bytes records rows held ranks ranksHeld n m tasksCounted rowsCounted blocked old room left i h,
-        deadline-is bytes records rows held ranks ranksHeld n m tasksCounted rowsCounted blocked old room left i h,
+        base-is bytes records rows held ranks ranksHeld n tasksCounted blocked old room left i h,
+        loads-agree bytes records rows held ranks ranksHeld n tasksCounted blocked old room left i h,
+        latest-is bytes records rows held ranks ranksHeld n tasksCounted blocked old room left i h,
+        deadline-is bytes records rows held ranks ranksHeld n tasksCounted blocked old room left i h,
       )
 
   -- the answer for the columns is that for the bytes

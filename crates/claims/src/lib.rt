@@ -16,9 +16,9 @@ use answering::group_of;
 use equation::demand;
 use model::Place;
 use model::Ticks;
+use response::find_blocking;
 use tables::Check;
 use tables::ONE_PERIOD;
-use tables::ROW_COUNT_AT;
 use tables::Refusal;
 use tables::TASK_COUNT_AT;
 use tables::fields::count;
@@ -60,14 +60,8 @@ fn check_table(table: &[u8], bytes: &[u8], words: &[u32], claims: &[u32]) -> Cla
     ensures { λ r. ⌜ Checked (now (table .entry)) (now (claims .entry)) r ⌝ }
 {
     let n = count(table[TASK_COUNT_AT]);
-    let m = count(table[ROW_COUNT_AT]);
-    // the priorities are the first bytes
-    let places = &bytes[32..96];
-    let semaphores = &bytes[96..160];
-    // of the words the longest sections are the last
-    let longest = &words[160..224];
     let mut held = [0u32; 32];
-    blocking::blocking(bytes, places, semaphores, longest, n, m, &mut held);
+    find_blocking(table, bytes, words, &mut held);
     // of the words: periods, costs, deadlines, spreads, latest delays
     check_all(
         bytes,

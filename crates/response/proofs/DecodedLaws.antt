@@ -11,6 +11,7 @@ use lib.Dec.{leb, ltb}
 use borrow.Author.Tests.{leb-true}
 use Rattle.model.specs.Choice.{both}
 use Rattle.model.specs.Lists.{tabulate, gather, filled, largestTo, largestOf, wordOf}
+use Rattle.model.proofs.Filling.{filled-same}
 use Rattle.model.proofs.Gather.{gather-same}
 use Rattle.model.proofs.Lists.{largest-high}
 use Rattle.model.proofs.Tests.{both-true, on-high}
@@ -72,80 +73,106 @@ ranks-held {bytes} {lent} room held =
       read = λ k h. sym (getD-take 32 lent k 0 (omega arith)) ∙ column .read k h;
     }
 
+-- a slice of zeros that has a word for each task
+pub zeros-lent : {bytes lent words : List ℕ} {rows : RowColumn → List ℕ} → TableHeld 1 bytes (recordColumns 32 lent words) rows →
+    Zeros (replicate 32 0) (taskCount bytes)
+zeros-lent held =
+    let few = few-tasks held in
+    record {
+      long = omega (arith, few, length-replicate {A = ℕ} 32 0);
+      each = λ i h. getD-replicate {A = ℕ} 32 i 0 0 (omega (arith, few));
+    }
+
 module _ (bytes : List ℕ) (records : RecordColumn → List ℕ) (rows : RowColumn → List ℕ) (held : TableHeld 1 bytes records rows)
-    (ranks : List ℕ) (ranksHeld : Ranks bytes ranks) (n m : ℕ)
-    (tasksCounted : n ≡ taskCount bytes) (rowsCounted : m ≡ rowCount bytes) where
+    (ranks : List ℕ) (ranksHeld : Ranks bytes ranks) (n : ℕ) (tasksCounted : n ≡ taskCount bytes) where
   right : TableRight bytes
   right = held-right held
 
   inside : {i : ℕ} → i < n → i < taskCount bytes
   inside h = omega (arith, tasksCounted)
 
-  row-inside : {k : ℕ} → k < m → k < rowCount bytes
-  row-inside h = omega (arith, rowsCounted)
-
-  place-inside : (k : ℕ) → k < m → placeIn bytes k < n
-  place-inside k h = omega (arith, right .rows k (row-inside h) placeField, tasksCounted)
-
-  few-rows : m ≤ 64
-  few-rows = omega (arith, right .head .counts rowCountField .high, rowsCounted)
-
   not-rising : (i : ℕ) → suc i < n → getD ranks (suc i) 0 ≤ getD ranks i 0
   not-rising i h =
       rw (ranksHeld .read (suc i) (inside h), ranksHeld .read i (omega (arith, inside h)))
       (right .records (suc i) (inside h) priorityField .notRising i refl)
 
-  rows-held : RowsHeld ranks (rows placeColumn) (rows semaphoreColumn) (rows longestColumn) n m
-  rows-held =
-      record {
-        few = omega (arith, few-rows);
-        prioritiesLong = omega (arith, ranksHeld .behind, tasksCounted);
-        placesLong = omega (arith, held .ofRows placeColumn .long, rowsCounted);
-        semaphoresLong = omega (arith, held .ofRows semaphoreColumn .long, rowsCounted);
-        longestLong = omega (arith, held .ofRows longestColumn .long, rowsCounted);
-        placesLow = λ k h. rw (held .ofRows placeColumn .read k (row-inside h)) (place-inside k h);
-        semaphoresLow = λ k h. rw (held .ofRows semaphoreColumn .read k (row-inside h)) (right .rows k (row-inside h) semaphoreField .high);
-        notRising = not-rising;
-        notFalling = λ k h.
-            rw (held .ofRows placeColumn .read (suc k) (row-inside h), held .ofRows placeColumn .read k (omega (arith, row-inside h)))
-            (right .rows (suc k) (row-inside h) orderField k refl .byPlace);
-      }
+  priority-is : (k : ℕ) → k < n → getD ranks k 0 ≡ priorityOf (tasksOf bytes) k
+  priority-is k l = ranksHeld .read k (inside l) ∙ sym (priority-at bytes k (inside l))
 
   -- no period is above its limit
   pub periods-high : PeriodsHigh (records periodColumn) n
   periods-high k h = rw (held .ofRecords periodColumn .read k (inside h)) (right .records k (inside h) periodField .high)
 
-  -- what the sweep asks, of a column of zeros that has a word for each task
-  pub may-sweep : (long : ℕ) → n ≤ long → RowsHeld ranks (rows placeColumn) (rows semaphoreColumn) (rows longestColumn) n m × Zeros (replicate long 0) n
-  may-sweep long room = (
-    rows-held,
-    record {
-      long = omega (arith, length-replicate {A = ℕ} long 0);
-      each = λ i h. getD-replicate {A = ℕ} long i 0 0 (omega arith);
-    },
-  )
+  -- the sweep
+  module _ (m : ℕ) (rowsCounted : m ≡ rowCount bytes) where
+    row-inside : {k : ℕ} → k < m → k < rowCount bytes
+    row-inside h = omega (arith, rowsCounted)
 
-  longest-high : (k : ℕ) → k < m → getD (rows longestColumn) k 0 ≤ 1000000
-  longest-high k h =
-      let row = right .rows k (row-inside h) in
-      rw (held .ofRows longestColumn .read k (row-inside h))
-      (omega (arith, row longestField .high, right .records (placeIn bytes k) (row placeField) costField .high))
+    place-inside : (k : ℕ) → k < m → placeIn bytes k < n
+    place-inside k h = omega (arith, right .rows k (row-inside h) placeField, tasksCounted)
 
-  blocking-high : (i : ℕ) → blockingAt ranks (rows placeColumn) (rows semaphoreColumn) (rows longestColumn) m i ≤ 1000000
-  unfolding blockingAt
-  blocking-high i =
-      let p = getD ranks i 0 in
-      largest-high (sectionAt ranks (rows placeColumn) (rows semaphoreColumn) (rows longestColumn) m p) m 1000000
-      (λ k h.
-      let b =
-      both (ltb (ownerAt ranks (rows placeColumn) k) p) (leb p (topAt ranks (rows placeColumn) (rows semaphoreColumn) m k)) in
-      omega (arith, on-high b (getD (rows longestColumn) k 0), longest-high k h))
+    pub rows-held : RowsHeld ranks (rows placeColumn) (rows semaphoreColumn) (rows longestColumn) n m
+    rows-held =
+        record {
+          few = omega (arith, right .head .counts rowCountField .high, rowsCounted);
+          prioritiesLong = omega (arith, ranksHeld .behind, tasksCounted);
+          placesLong = omega (arith, held .ofRows placeColumn .long, rowsCounted);
+          semaphoresLong = omega (arith, held .ofRows semaphoreColumn .long, rowsCounted);
+          longestLong = omega (arith, held .ofRows longestColumn .long, rowsCounted);
+          placesLow = λ k h. rw (held .ofRows placeColumn .read k (row-inside h)) (place-inside k h);
+          semaphoresLow = λ k h. rw (held .ofRows semaphoreColumn .read k (row-inside h)) (right .rows k (row-inside h) semaphoreField .high);
+          notRising = not-rising;
+          notFalling = λ k h.
+              rw (held .ofRows placeColumn .read (suc k) (row-inside h), held .ofRows placeColumn .read k (omega (arith, row-inside h)))
+              (right .rows (suc k) (row-inside h) orderField k refl .byPlace);
+        }
 
-  -- and what it leaves
+    -- what it finds is the blocking of the table that the bytes mean
+    swept : (i : ℕ) → i < n → blockingAt ranks (rows placeColumn) (rows semaphoreColumn) (rows longestColumn) m i ≡ blockingOf (tableOf bytes) i
+    unfolding blockingAt blockingOf
+    swept i h =
+        ap (λ (p : ℕ). largestTo (sectionAt ranks (rows placeColumn) (rows semaphoreColumn) (rows longestColumn) m p) m) (priority-is i h)
+        ∙ blocking-agrees (tasksOf bytes) (rowAt bytes) m ranks (rows placeColumn) (rows semaphoreColumn) (rows longestColumn)
+        (λ k l. held .ofRows placeColumn .read k (row-inside l)) (λ k l. held .ofRows semaphoreColumn .read k (row-inside l)) (λ k l. held .ofRows longestColumn .read k (row-inside l))
+        (λ k l. priority-is (placeIn bytes k) (place-inside k l))
+        (taskOf (tasksOf bytes) i .priority)
+        ∙ ap
+        (λ (c : ℕ). largestOf (section (tasksOf bytes) (tabulate (rowAt bytes) c) (taskOf (tasksOf bytes) i .priority)) (tabulate (rowAt bytes) c))
+        rowsCounted
+
+    pub blocking-found : (old left : List ℕ) →
+        left ≡ filled (blockingAt ranks (rows placeColumn) (rows semaphoreColumn) (rows longestColumn) m) n old →
+        left ≡ filled (blockingOf (tableOf bytes)) (taskCount bytes) old
+    blocking-found old left e =
+        e
+        ∙ filled-same (blockingAt ranks (rows placeColumn) (rows semaphoreColumn) (rows longestColumn) m) (blockingOf (tableOf bytes)) n old swept
+        ∙ ap (λ (c : ℕ). filled (blockingOf (tableOf bytes)) c old) tasksCounted
+
+    longest-high : (k : ℕ) → k < m → getD (rows longestColumn) k 0 ≤ 1000000
+    longest-high k h =
+        let row = right .rows k (row-inside h) in
+        rw (held .ofRows longestColumn .read k (row-inside h))
+        (omega (arith, row longestField .high, right .records (placeIn bytes k) (row placeField) costField .high))
+
+    found-high : (i : ℕ) → blockingAt ranks (rows placeColumn) (rows semaphoreColumn) (rows longestColumn) m i ≤ 1000000
+    unfolding blockingAt
+    found-high i =
+        let p = getD ranks i 0 in
+        largest-high (sectionAt ranks (rows placeColumn) (rows semaphoreColumn) (rows longestColumn) m p) m 1000000
+        (λ k h.
+        let b =
+        both (ltb (ownerAt ranks (rows placeColumn) k) p) (leb p (topAt ranks (rows placeColumn) (rows semaphoreColumn) m k)) in
+        omega (arith, on-high b (getD (rows longestColumn) k 0), longest-high k h))
+
+  blocking-high : (i : ℕ) → i < n → blockingOf (tableOf bytes) i ≤ 1000000
+  blocking-high i h = omega (arith, swept (rowCount bytes) refl i h, found-high (rowCount bytes) refl i)
+
+  -- the columns with the blocking beside them
   module _ (blocked old : List ℕ) (room : n ≤ length old)
-      (left : blocked ≡ filled (blockingAt ranks (rows placeColumn) (rows semaphoreColumn) (rows longestColumn) m) n old) where
-    blockedHeld : Holds blocked n (blockingAt ranks (rows placeColumn) (rows semaphoreColumn) (rows longestColumn) m)
-    blockedHeld = holds-filled _ _ _ _ left room
+      (left : blocked ≡ filled (blockingOf (tableOf bytes)) (taskCount bytes) old) where
+    blockedHeld : Holds blocked n (blockingOf (tableOf bytes))
+    blockedHeld =
+        holds-filled _ _ _ _ (left ∙ ap (λ (c : ℕ). filled (blockingOf (tableOf bytes)) c old) (sym tasksCounted)) room
 
     pub decoded-fits : DecodedFits (decodedFrom ranks records blocked) n
     decoded-fits =
@@ -179,37 +206,18 @@ module _ (bytes : List ℕ) (records : RecordColumn → List ℕ) (rows : RowCol
               let numbers = right .records i (inside h) in
               rw (held .ofRecords deadlineColumn .read i (inside h)) (omega (arith, numbers deadlineField .high, numbers periodField .high));
           latestHigh = λ i h. rw (held .ofRecords latestColumn .read i (inside h)) (right .records i (inside h) latestField .high);
-          heldHigh = λ i h. rw (blockedHeld .read i h) (blocking-high i);
+          heldHigh = λ i h. rw (blockedHeld .read i h) (blocking-high i h);
         }
 
     module _ (i : ℕ) (h : i < n) where
       own : taskOf (tasksOf bytes) i ≡ taskAt bytes i
       own = task-is bytes i (inside h)
 
-      blocking-is : getD blocked i 0 ≡ blockingOf (tableOf bytes) i
-      unfolding blockingAt blockingOf
-      blocking-is =
-          blockedHeld .read i h
-          ∙ ap (λ (p : ℕ). largestTo (sectionAt ranks (rows placeColumn) (rows semaphoreColumn) (rows longestColumn) m p) m)
-          (ranksHeld .read i (inside h) ∙ sym (priority-at bytes i (inside h)))
-          ∙ blocking-agrees (tasksOf bytes) (rowAt bytes) m ranks (rows placeColumn) (rows semaphoreColumn) (rows longestColumn)
-          (λ k l. held .ofRows placeColumn .read k (row-inside l)) (λ k l. held .ofRows semaphoreColumn .read k (row-inside l)) (λ k l. held .ofRows longestColumn .read k (row-inside l))
-          (λ k l.
-          ranksHeld .read (placeIn bytes k) (inside (place-inside k l))
-          ∙ sym (priority-at bytes (placeIn bytes k) (inside (place-inside k l))))
-          (taskOf (tasksOf bytes) i .priority)
-          ∙ ap
-          (λ (c : ℕ). largestOf (section (tasksOf bytes) (tabulate (rowAt bytes) c) (taskOf (tasksOf bytes) i .priority)) (tabulate (rowAt bytes) c))
-          rowsCounted
-
       pub base-is : getD (records costColumn) i 0 + getD blocked i 0 ≡ baseOf (tableOf bytes) i
       base-is =
           let cost : getD (records costColumn) i 0 ≡ taskOf (tasksOf bytes) i .cost =
           held .ofRecords costColumn .read i (inside h) ∙ sym (ap (λ (t : Task). t .cost) own) in
-          omega (arith, cost, blocking-is)
-
-      priority-is : (k : ℕ) → k < n → getD ranks k 0 ≡ priorityOf (tasksOf bytes) k
-      priority-is k l = ranksHeld .read k (inside l) ∙ sym (priority-at bytes k (inside l))
+          omega (arith, cost, blockedHeld .read i h)
 
       pub loads-agree : loadsIn (decodedFrom ranks records blocked) n i ≡ loadsOf (tasksOf bytes) i
       loads-agree =

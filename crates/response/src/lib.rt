@@ -4,8 +4,11 @@ ghost use Prim.Native.Nat.{_≤_, _<_};
 ghost use lib.Dec.{leb};
 ghost use lib.ListN.{length};
 ghost use Rattle.model.specs.Choice.{both};
-ghost use Rattle.tables.specs.Layout.{taskCount};
+ghost use Rattle.model.specs.Lists.{filled};
+ghost use Rattle.tables.specs.Layout.{taskCount, tableOf};
 ghost use Rattle.reading.specs.Columns.{recordColumns, rowColumns, Lent, TableHeld};
+ghost use Rattle.blocking.specs.Ceilings.{blockingOf};
+ghost use Rattle.blocking.specs.Sweep.{Zeros};
 ghost use Rattle.response.specs.Verdicts.{codeOf, verdictPlace, packed};
 ghost use Rattle.response.specs.Outcome.{Outcome, lending, leaving};
 ghost use Rattle.response.specs.Packing.{PackedOutcome};
@@ -87,6 +90,23 @@ fn room(n: usize, answers: usize, rounds: usize) -> bool
     n <= rounds
 }
 
+// B of each task of a table that the columns hold, in a slice that has a zero for each.
+pub fn find_blocking(table: &[u8], bytes: &[u8], words: &[u32], held: &mut [u32])
+    requires { ⌜ Lent (now table) 32 (now bytes) (now words) ⌝ }
+    requires { ⌜ TableHeld 1 (now table) (recordColumns 32 (now bytes) (now words)) (rowColumns 32 (now bytes) (now words)) ⌝ }
+    requires { ⌜ Zeros (now held) (taskCount (now table)) ⌝ }
+    ensures { λ _. ⌜ now (held .exit) ≡ filled (blockingOf (tableOf (now (table .entry)))) (taskCount (now (table .entry))) (now (held .entry)) ⌝ }
+{
+    let n = count(table[TASK_COUNT_AT]);
+    let m = count(table[ROW_COUNT_AT]);
+    // the priorities are the first bytes
+    let places = &bytes[32..96];
+    let semaphores = &bytes[96..160];
+    // of the words the longest sections are the last
+    let longest = &words[160..224];
+    blocking::blocking(bytes, places, semaphores, longest, n, m, held);
+}
+
 // Answers a table that the columns hold, in slices that have room. The blocking of all tasks is found first.
 fn answer(
     start: Start,
@@ -102,14 +122,8 @@ fn answer(
     ensures { λ r. ⌜ Outcome start (lending (now (table .entry)) (now (answers .entry)) (now (rounds .entry))) (leaving r (now (answers .exit)) (now (rounds .exit))) ⌝ }
 {
     let n = count(table[TASK_COUNT_AT]);
-    let m = count(table[ROW_COUNT_AT]);
-    // the priorities are the first bytes
-    let places = &bytes[32..96];
-    let semaphores = &bytes[96..160];
-    // of the words the longest sections are the last
-    let longest = &words[160..224];
     let mut held = [0u32; 32];
-    blocking::blocking(bytes, places, semaphores, longest, n, m, &mut held);
+    find_blocking(table, bytes, words, &mut held);
     // a mark for each of 32 tasks, and one more
     let mut marks = [0u32; 33];
     // of the words: periods, costs, deadlines, spreads, latest delays

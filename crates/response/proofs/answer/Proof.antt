@@ -1,26 +1,23 @@
 -- `response::answer` meets its contract: the columns hold the table that the bytes mean, so its answers are theirs.
 -- Assumes nothing.
 use native.Mathlib.Omega.{arith}
-use borrow.Author.Needs.{needs}
 use Rattle.reading.proofs.HeldLaws.{held-right}
-use Rattle.response.proofs.DecodedLaws.{room-for, few-tasks, ranks-held, periods-high, may-sweep, decoded-fits, table-answered}
+use Rattle.response.proofs.DecodedLaws.{room-for, few-tasks, ranks-held, zeros-lent, periods-high, decoded-fits, table-answered}
+use borrow.Author.Needs.{needs}
 use Rattle.response.proofs.answer.Statement.{statement}
 use Rattle.response.proofs.answer.Tie as tie
 
 shared-slice-read-count : tie.Need-shared-slice-read-count
 shared-slice-read-count c = omega (arith, held-right (c .before .before .before .before .before .before .pre .1 .1) .head .longEnough)
 
-shared-slice-read-count-2 : tie.Need-shared-slice-read-count-2
-shared-slice-read-count-2 c = omega (arith, held-right (c .before .before .before .before .before .before .before .before .pre .1 .1) .head .longEnough)
-
-blocking-requires : tie.Need-blocking-requires
-blocking-requires c κs = may-sweep _ _ _ (c .before .before .before .before .before .before .before .before .before .before .before .before .before .pre .1 .1) _ (ranks-held (c .before .before .before .before .before .before .before .before .before .before .before .before .before .pre .0) (c .before .before .before .before .before .before .before .before .before .before .before .before .before .pre .1 .1)) _ _ (c .before .before .before .before .before .before .count .ensures .0) (c .before .before .before .before .count2 .ensures .0) 32 (omega (arith, few-tasks (c .before .before .before .before .before .before .before .before .before .before .before .before .before .pre .1 .1), c .before .before .before .before .before .before .count .ensures .0))
+find-blocking-requires : tie.Need-find-blocking-requires
+find-blocking-requires c κs = (c .before .before .before .before .before .before .before .before .pre .0, (c .before .before .before .before .before .before .before .before .pre .1 .1, zeros-lent (c .before .before .before .before .before .before .before .before .pre .1 .1)))
 
 answer-all-requires : tie.Need-answer-all-requires
-answer-all-requires c κs = (decoded-fits _ _ _ (c .before .before .before .before .before .before .before .before .before .before .before .before .before .before .before .before .before .before .before .before .before .before .before .before .pre .1 .1) _ (ranks-held (c .before .before .before .before .before .before .before .before .before .before .before .before .before .before .before .before .before .before .before .before .before .before .before .before .pre .0) (c .before .before .before .before .before .before .before .before .before .before .before .before .before .before .before .before .before .before .before .before .before .before .before .before .pre .1 .1)) _ _ (c .before .before .before .before .before .before .before .before .before .before .before .before .before .before .before .before .before .count .ensures .0) (c .before .before .before .before .before .before .before .before .before .before .before .before .before .before .before .count2 .ensures .0) _ _ (omega (arith, few-tasks (c .before .before .before .before .before .before .before .before .before .before .before .before .before .before .before .before .before .before .before .before .before .before .before .before .pre .1 .1), c .before .before .before .before .before .before .before .before .before .before .before .before .before .before .before .before .before .count .ensures .0)) (c .before .before .before .before .before .before .before .before .before .before .blocking .ensures), ((periods-high _ _ _ (c .before .before .before .before .before .before .before .before .before .before .before .before .before .before .before .before .before .before .before .before .before .before .before .before .pre .1 .1) _ (ranks-held (c .before .before .before .before .before .before .before .before .before .before .before .before .before .before .before .before .before .before .before .before .before .before .before .before .pre .0) (c .before .before .before .before .before .before .before .before .before .before .before .before .before .before .before .before .before .before .before .before .before .before .before .before .pre .1 .1)) _ _ (c .before .before .before .before .before .before .before .before .before .before .before .before .before .before .before .before .before .count .ensures .0) (c .before .before .before .before .before .before .before .before .before .before .before .before .before .before .before .count2 .ensures .0), omega (arith, few-tasks (c .before .before .before .before .before .before .before .before .before .before .before .before .before .before .before .before .before .before .before .before .before .before .before .before .pre .1 .1), c .before .before .before .before .before .before .before .before .before .before .before .before .before .before .before .before .before .count .ensures .0)), room-for (c .before .before .before .before .before .before .before .before .before .before .before .before .before .before .before .before .before .count .ensures .0) (c .before .before .before .before .before .before .before .before .before .before .before .before .before .before .before .before .before .before .before .before .before .before .before .before .pre .1 .0)))
+answer-all-requires c κs = (decoded-fits _ _ _ (c .before .before .before .before .before .before .before .before .before .before .before .before .before .before .before .before .before .before .before .pre .1 .1) _ (ranks-held (c .before .before .before .before .before .before .before .before .before .before .before .before .before .before .before .before .before .before .before .pre .0) (c .before .before .before .before .before .before .before .before .before .before .before .before .before .before .before .before .before .before .before .pre .1 .1)) _ (c .before .before .before .before .before .before .before .before .before .before .before .before .count .ensures .0) _ _ (omega (arith, few-tasks (c .before .before .before .before .before .before .before .before .before .before .before .before .before .before .before .before .before .before .before .pre .1 .1), c .before .before .before .before .before .before .before .before .before .before .before .before .count .ensures .0)) (c .before .before .before .before .before .before .before .before .before .before .find-blocking .ensures), ((periods-high _ _ _ (c .before .before .before .before .before .before .before .before .before .before .before .before .before .before .before .before .before .before .before .pre .1 .1) _ (ranks-held (c .before .before .before .before .before .before .before .before .before .before .before .before .before .before .before .before .before .before .before .pre .0) (c .before .before .before .before .before .before .before .before .before .before .before .before .before .before .before .before .before .before .before .pre .1 .1)) _ (c .before .before .before .before .before .before .before .before .before .before .before .before .count .ensures .0), omega (arith, few-tasks (c .before .before .before .before .before .before .before .before .before .before .before .before .before .before .before .before .before .before .before .pre .1 .1), c .before .before .before .before .before .before .before .before .before .before .before .before .count .ensures .0)), room-for (c .before .before .before .before .before .before .before .before .before .before .before .before .count .ensures .0) (c .before .before .before .before .before .before .before .before .before .before .before .before .before .before .before .before .before .before .before .pre .1 .0)))
 
 returns : tie.Need-returns
-returns c = table-answered _ _ _ (c .before .before .before .before .before .before .before .before .before .before .before .before .before .before .before .before .before .before .before .before .before .before .before .before .before .before .before .before .before .before .pre .1 .1) _ (ranks-held (c .before .before .before .before .before .before .before .before .before .before .before .before .before .before .before .before .before .before .before .before .before .before .before .before .before .before .before .before .before .before .pre .0) (c .before .before .before .before .before .before .before .before .before .before .before .before .before .before .before .before .before .before .before .before .before .before .before .before .before .before .before .before .before .before .pre .1 .1)) _ _ (c .before .before .before .before .before .before .before .before .before .before .before .before .before .before .before .before .before .before .before .before .before .before .before .count .ensures .0) (c .before .before .before .before .before .before .before .before .before .before .before .before .before .before .before .before .before .before .before .before .before .count2 .ensures .0) _ _ (omega (arith, few-tasks (c .before .before .before .before .before .before .before .before .before .before .before .before .before .before .before .before .before .before .before .before .before .before .before .before .before .before .before .before .before .before .pre .1 .1), c .before .before .before .before .before .before .before .before .before .before .before .before .before .before .before .before .before .before .before .before .before .before .before .count .ensures .0)) (c .before .before .before .before .before .before .before .before .before .before .before .before .before .before .before .before .blocking .ensures) _ _ _ (room-for (c .before .before .before .before .before .before .before .before .before .before .before .before .before .before .before .before .before .before .before .before .before .before .before .count .ensures .0) (c .before .before .before .before .before .before .before .before .before .before .before .before .before .before .before .before .before .before .before .before .before .before .before .before .before .before .before .before .before .before .pre .1 .0)) _ _ _ (c .before .before .before .before .before .answer-all .ensures)
+returns c = table-answered _ _ _ (c .before .before .before .before .before .before .before .before .before .before .before .before .before .before .before .before .before .before .before .before .before .before .before .before .before .pre .1 .1) _ (ranks-held (c .before .before .before .before .before .before .before .before .before .before .before .before .before .before .before .before .before .before .before .before .before .before .before .before .before .pre .0) (c .before .before .before .before .before .before .before .before .before .before .before .before .before .before .before .before .before .before .before .before .before .before .before .before .before .pre .1 .1)) _ (c .before .before .before .before .before .before .before .before .before .before .before .before .before .before .before .before .before .before .count .ensures .0) _ _ (omega (arith, few-tasks (c .before .before .before .before .before .before .before .before .before .before .before .before .before .before .before .before .before .before .before .before .before .before .before .before .before .pre .1 .1), c .before .before .before .before .before .before .before .before .before .before .before .before .before .before .before .before .before .before .count .ensures .0)) (c .before .before .before .before .before .before .before .before .before .before .before .before .before .before .before .before .find-blocking .ensures) _ _ _ (room-for (c .before .before .before .before .before .before .before .before .before .before .before .before .before .before .before .before .before .before .count .ensures .0) (c .before .before .before .before .before .before .before .before .before .before .before .before .before .before .before .before .before .before .before .before .before .before .before .before .before .pre .1 .0)) _ _ _ (c .before .before .before .before .before .answer-all .ensures)
 
 pub answer-spec : {M : Type 1} → statement M
 answer-spec =
@@ -28,19 +25,8 @@ answer-spec =
     (tie.spec
     shared-slice-read-count
     (λ c κs. search needs)
-    shared-slice-read-count-2
-    (λ c κs. search needs)
     (λ c. search needs)
-    (λ c. search needs)
-    (λ c. search needs)
-    (λ c. search needs)
-    (λ c. search needs)
-    (λ c. search needs)
-    (λ c. search needs)
-    (λ c. search needs)
-    (λ c. search needs)
-    (λ c. search needs)
-    blocking-requires
+    find-blocking-requires
     (λ c. search needs)
     (λ c. search needs)
     (λ c. search needs)
