@@ -8,6 +8,7 @@ use mathlib.Core.Bool.{Bool, true, false}
 use mathlib.Core.List.{List, [], _∷_, _++_, flatten, append-nil}
 use lib.ListN.{length, take, length-append}
 use Rattle.io.specs.Counts.{Counts}
+use Rattle.model.specs.Choice.{pick}
 use Rattle.scanning.specs.declared.Scan.{Scan}
 use Rattle.scanning.specs.Pieces.{start, stateAfter, endedIn, scanAfter, keptAfter, stuck, More, Within, Gone, gone, through, allThrough}
 use Rattle.scanning.proofs.PieceLaws.{kept-long, piecesRight}
@@ -16,7 +17,7 @@ use Rattle.checking.specs.Pieces.{wordsKept, lineAfter}
 use Rattle.checking.proofs.ListLaws.{anyPieces}
 use Rattle.checker.specs.declared.Step.{Step}
 use Rattle.checker.specs.declared.Step.the-variants as step
-use Rattle.checker.specs.Lists.{Behind, goneOn, stepFor, Taken, LineOfText}
+use Rattle.checker.specs.Lists.{Behind, stepFor, Taken, LineOfText}
 
 -- what stands in a step, and whether it goes on
 abbrev scanOf : Step → Scan
@@ -27,7 +28,7 @@ abbrev goesOn : Step → ℕ
 goesOn (step.Ended scan) = 0
 goesOn (step.More scan) = 1
 
-scan-on : (b : Bool) (scan : Scan) → scanOf (goneOn b scan) ≡ scan
+scan-on : (b : Bool) (scan : Scan) → scanOf (pick b (step.Ended scan) (step.More scan)) ≡ scan
 scan-on true scan = refl
 scan-on false scan = refl
 
@@ -53,12 +54,14 @@ taken-none {scan} {piece} {words} h = go piece h
 
 module _ {scan next : Scan} {piece words new : List ℕ} (m : More scan piece words next new) where
   -- behind bytes the step is told by the test
-  some-step : (piece : List ℕ) → 0 < length piece → stepFor scan piece ≡ goneOn (stuck (scanAfter scan piece .state)) (scanAfter scan piece)
+  some-step : (piece : List ℕ) → 0 < length piece →
+      stepFor scan piece ≡ pick (stuck (scanAfter scan piece .state)) (step.Ended (scanAfter scan piece)) (step.More (scanAfter scan piece))
   unfolding stepFor
   some-step [] h = absurd (omega (arith, h))
   some-step (byte ∷ rest) h = refl
 
-  pub taken-some : {test : Bool} → 0 < length piece → test ≡ stuck (next .state) → Taken scan piece words (goneOn test next) new
+  pub taken-some : {test : Bool} → 0 < length piece → test ≡ stuck (next .state) →
+      Taken scan piece words (pick test (step.Ended next) (step.More next)) new
   taken-some h e = record { resultIs = rw (e, m .scanIs) (sym (some-step piece h)); wordsAre = m .wordsAre }
 
 -- how far the scan is, is how long the text is

@@ -2,9 +2,9 @@
 -- Assumes nothing.
 use Prim.Native.Nat.{ℕ, _<_}
 use mathlib.Core.Path.{_≡_}
-use mathlib.Core.Bool.{Bool, true, false}
 use mathlib.Core.List.{List, [], _∷_}
 use lib.ListN.{length}
+use Rattle.model.specs.Choice.{pick}
 use Rattle.scanning.specs.declared.Scan.{Scan}
 use Rattle.scanning.specs.Pieces.{scanAfter, keptAfter, stuck, gone, allThrough}
 use Rattle.checking.specs.Text.{checkText}
@@ -30,13 +30,9 @@ listRead TooLong words = Unit
 listRead (Gone scan) words = Behind scan words
 
 -- "to its end or to something that can't be read": a read that gives nothing is the end, and no other is
-abbrev pub goneOn : Bool → Scan → Step
-goneOn true scan = Ended scan
-goneOn false scan = More scan
-
 unfoldable pub stepFor : Scan → List ℕ → Step
 stepFor scan [] = Ended scan
-stepFor scan (byte ∷ rest) = goneOn (stuck (scanAfter scan (byte ∷ rest) .state)) (scanAfter scan (byte ∷ rest))
+stepFor scan (byte ∷ rest) = pick (stuck (scanAfter scan (byte ∷ rest) .state)) (Ended (scanAfter scan (byte ∷ rest))) (More (scanAfter scan (byte ∷ rest)))
 
 pub record Taken (scan : Scan) (piece old : List ℕ) (result : Step) (new : List ℕ) : Type 0 where
   pub resultIs : result ≡ stepFor scan piece
