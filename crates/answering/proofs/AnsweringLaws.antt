@@ -148,7 +148,7 @@ module _ (d : Decoded) (n : ℕ) where
                 (λ k l. f .loadsFit .each k l .periodLow)));
             startHigh = omega (arith, firstIs, first-high start);
             lateHigh = f .latestHigh i h;
-            deadlineHigh = f .deadlineHigh i h;
+            deadlineHigh = omega (arith, f .deadlineHigh i h);
           })
 
       -- either start is at least the own cost

@@ -11,7 +11,7 @@ use Rattle.model.proofs.Search as search-laws
 use Rattle.model.proofs.Tests.{clash}
 use Rattle.equation.specs.Demand.{demand}
 use Rattle.equation.specs.Answer.{solves, smallest, answer, answerFor}
-use Rattle.equation.specs.Laws.{IsSmallest, SmallestMeans, AnswerMeans, SmallestExists, EnoughInTime}
+use Rattle.equation.specs.Laws.{IsSmallest, SmallestMeans, AnswerMeans, SmallestExists, EnoughInTime, RaisedNotAbove}
 use Rattle.equation.proofs.DemandLaws as demands
 
 smallest-found : (base : ℕ) (loads : List Load) (limit : ℕ) →
@@ -120,3 +120,17 @@ enough-in-time base loads late deadline w b p h inTime =
     let s = smallest-exists base loads w b p h in
     let e = answer-answered base loads late deadline (s .0) (s .1) (omega (arith, s .2)) in
     (omega (arith, e, s .1 .positive), omega (arith, e, s .2))
+
+-- a demand with a raised base is raised by as much
+raised-demand : (base : ℕ) (loads : List Load) (more w : ℕ) → demand (base + more) loads w ≡ demand base loads w + more
+unfolding demand
+raised-demand base loads more w = omega arith
+
+-- What a solution of the raised equation has without the raise is enough for the equation itself, which so has a solution no later.
+pub raised-not-above : RaisedNotAbove
+raised-not-above base loads more w b s v one e =
+    let raised = raised-demand base loads more v in
+    let low = demands.at-least-base base loads v in
+    let less = demands.monotone base loads (v - more) v (omega arith) in
+    let found = smallest-exists base loads (v - more) b (omega (arith, raised, low)) (omega (arith, raised, less)) in
+    omega (arith, raised, low, found .2, s .least (found .0) (found .1 .positive) (found .1 .solution))

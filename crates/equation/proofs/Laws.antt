@@ -26,6 +26,9 @@ smallestExists = answers.smallest-exists
 pub enoughInTime : laws.EnoughInTime
 enoughInTime = answers.enough-in-time
 
+pub raisedNotAbove : laws.RaisedNotAbove
+raisedNotAbove = answers.raised-not-above
+
 pub sequenceReaches : laws.SequenceReaches
 sequenceReaches = sequence.sequence-reaches
 

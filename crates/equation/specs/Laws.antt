@@ -61,6 +61,11 @@ EnoughInTime =
 abbrev pub NotAbove : ℕ → List Load → ℕ → Type 0
 NotAbove base loads start = (w : ℕ) → 1 ≤ w → demand base loads w ≡ w → start ≤ w
 
+-- Where the base is raised, every solution is raised by no less: so the smallest solution, raised by as much, is such a start for the raised base.
+abbrev pub RaisedNotAbove : Type 0
+RaisedNotAbove =
+    (base : ℕ) (loads : List Load) (more w : ℕ) → 1 ≤ base → IsSmallest base loads w → NotAbove (base + more) loads (w + more)
+
 -- The sequence from such a start: no term passes a solution; it rises strictly until it stops; so it reaches the smallest
 -- solution, in at most as many steps as lie between.
 pub record SequenceReaches : Type 0 where

@@ -15,16 +15,16 @@ use Rattle.model.specs.Lists.{filled, sumOf, total, wordOf}
 use Rattle.model.specs.Tables.{isOther}
 use Rattle.model.proofs.Filling.{filled-word}
 use Rattle.model.proofs.Lists.{getD-filled, getD-filled-past, length-filled}
-use Rattle.model.proofs.Tests.{both-true}
+use Rattle.model.proofs.Tests.{both-true, clash}
 use Rattle.equation.specs.Demand.{demand}
 use Rattle.equation.specs.Laws.{costOf}
 use Rattle.equation.specs.Slices.{loads, loadAt, LoadsFit}
-use Rattle.solver.specs.Solver.{Solvable, SolvedBy}
-use Rattle.solver.specs.Invariant.{Places, InLimits, Marked, NonePassed}
+use Rattle.solver.specs.Solver.{Solvable, SolvedBy, Followable, FollowedBy}
+use Rattle.solver.specs.Invariant.{InLimits, Marked, NonePassed, places, Right}
 use Rattle.solver.specs.Marks.{raise, firstMarkFor, movedAt, moreAt, PeriodsHigh, Markable, Passable, Passed, Advanced, Begun}
 use Rattle.solver.proofs.PassLaws.{least-low}
 use Rattle.solver.proofs.MarkLaws.{marksRight}
-use Rattle.solver.proofs.SolverLaws.{Turn, turn-first, turn-found, turn-on, gained}
+use Rattle.solver.proofs.SolverLaws.{Turn, turn-first, turn-late, turn-found, turn-on, gained}
 
 -- loads within the limits can be marked
 pub markable : {periods costs spreads : List ℕ} {count : ℕ} → LoadsFit periods costs spreads count → PeriodsHigh periods count → Markable periods spreads count
@@ -37,25 +37,23 @@ markable fit tall =
       spreadHigh = λ k h. fit .each k h .spreadHigh;
     }
 
--- the places of lent slices: all but the own one are loads
-abbrev places : (periods costs spreads : List ℕ) (own count base : ℕ) → Places
-places periods costs spreads own count base =
-    record { test = isOther own; load = loadAt periods costs spreads; count = count; base = base }
-
 module _ (periods costs spreads : List ℕ) (own count base : ℕ) where
-  -- the marks and the sum are right for x or for a tick before it, and no mark is below the least
-  pub record Right (x : ℕ) (marks : List ℕ) (sum least : ℕ) : Type 0 where
-    pub marked : Marked (places periods costs spreads own count base) x (wordOf marks) sum
-    pub under : (k : ℕ) → k < count → least ≤ wordOf marks k
-    pub end : wordOf marks count ≡ 0
-    pub room : count < length marks
-
   -- what is known before each round
   pub record Before (start late deadline x rounds : ℕ) (marks : List ℕ) (sum least : ℕ) : Type 0 where
     pub turn : Turn base (loads periods costs spreads own count) start late deadline x rounds
-    pub right : Right x marks sum least
+    pub right : Right periods costs spreads own count base x marks sum least
     pub sumHigh : sum ≤ 1000000000
     pub periodHigh : PeriodsHigh periods count
+
+  pub before-first : (start late deadline ahead : ℕ) (marks : List ℕ) (sum least : ℕ) →
+      Followable periods costs spreads own count base start late deadline ahead marks sum least → Before start late deadline start 1 marks sum least
+  before-first start late deadline ahead marks sum least f =
+      record {
+        turn = turn-first base (loads periods costs spreads own count) start late deadline (f .asked) (f .inTime);
+        right = f .right;
+        sumHigh = f .sumHigh;
+        periodHigh = f .periodHigh;
+      }
 
   module _ (fit : LoadsFit periods costs spreads count) where
     limits : InLimits (places periods costs spreads own count base)
@@ -71,7 +69,7 @@ module _ (periods costs spreads : List ℕ) (own count base : ℕ) where
     pub right-first : (old marks : List ℕ) (others start least : ℕ) → count < length old →
         Begun periods spreads count (loads periods costs spreads own count) base others start least →
         marks ≡ set (filled (firstMarkFor periods spreads own) count old) count 0 →
-        Right start marks (base + others) least
+        Right periods costs spreads own count base start marks (base + others) least
     right-first old marks others start least room b e =
         record {
           marked =
@@ -103,7 +101,7 @@ module _ (periods costs spreads : List ℕ) (own count base : ℕ) where
         (record { loads = λ k l t. rw t refl; others = λ k l t. rw t refl }))
         (λ k l. omega (arith, first-low others start least b k l (isOther own k) refl)))
 
-    pub right-later : (v x : ℕ) (marks : List ℕ) (sum least : ℕ) → v ≤ x → Right v marks sum least → Right x marks sum least
+    pub right-later : (v x : ℕ) (marks : List ℕ) (sum least : ℕ) → v ≤ x → Right periods costs spreads own count base v marks sum least → Right periods costs spreads own count base x marks sum least
     right-later v x marks sum least h r =
         record {
           marked = marksRight .later (places periods costs spreads own count base) v x (wordOf marks) sum h (r .marked);
@@ -112,7 +110,7 @@ module _ (periods costs spreads : List ℕ) (own count base : ℕ) where
           room = r .room;
         }
 
-    pub may-pass : PeriodsHigh periods count → (x : ℕ) (marks : List ℕ) (sum least : ℕ) → Right x marks sum least → x ≤ 1000000000 → sum ≤ 1000000000 →
+    pub may-pass : PeriodsHigh periods count → (x : ℕ) (marks : List ℕ) (sum least : ℕ) → Right periods costs spreads own count base x marks sum least → x ≤ 1000000000 → sum ≤ 1000000000 →
         (ahead : ℕ) → ahead ≤ 1000000 → Passable periods costs marks count (x + raise) ahead sum
     may-pass tall x marks sum least r h s ahead near =
         record {
@@ -131,12 +129,12 @@ module _ (periods costs spreads : List ℕ) (own count base : ℕ) where
         }
 
     -- where x has passed no mark, the sum is the next term
-    right-sum : (x : ℕ) (marks : List ℕ) (sum least : ℕ) → Right x marks sum least → NonePassed (places periods costs spreads own count base) x (wordOf marks) →
+    right-sum : (x : ℕ) (marks : List ℕ) (sum least : ℕ) → Right periods costs spreads own count base x marks sum least → NonePassed (places periods costs spreads own count base) x (wordOf marks) →
         sum ≡ demand base (loads periods costs spreads own count) x
     right-sum x marks sum least r none =
         marksRight .exact (places periods costs spreads own count base) limits x (wordOf marks) sum (r .marked) none
 
-    module _ (x ahead : ℕ) (marks : List ℕ) (sum least : ℕ) (r : Right x marks sum least) (h : x ≤ 1000000000) (after : List ℕ) (newSum newLeast : ℕ) where
+    module _ (x ahead : ℕ) (marks : List ℕ) (sum least : ℕ) (r : Right periods costs spreads own count base x marks sum least) (h : x ≤ 1000000000) (after : List ℕ) (newSum newLeast : ℕ) where
       module _ (p : Passed periods costs marks count (x + raise) ahead sum after newSum newLeast) where
         word : (k : ℕ) → k < count → wordOf after k ≡ movedAt periods marks (x + raise) k
         word k l = filled-word (movedAt periods marks (x + raise)) count marks after (p .marksAre) k l
@@ -145,7 +143,7 @@ module _ (periods costs spreads : List ℕ) (own count base : ℕ) where
             × NonePassed (places periods costs spreads own count base) x (wordOf after)
         passed = marksRight .passed (places periods costs spreads own count base) limits x (wordOf marks) (wordOf after) sum (omega arith) (r .marked) word
 
-        passed-right : Right x after newSum newLeast
+        passed-right : Right periods costs spreads own count base x after newSum newLeast
         passed-right =
             record {
               marked = rw (p .sumIs) (passed .0);
@@ -156,12 +154,12 @@ module _ (periods costs spreads : List ℕ) (own count base : ℕ) where
 
       -- after a round's look at the marks
       pub advanced-right : Advanced periods costs marks count (x + raise) ahead sum least after newSum newLeast →
-          Right x after newSum newLeast × (newSum ≡ demand base (loads periods costs spreads own count) x)
+          Right periods costs spreads own count base x after newSum newLeast × (newSum ≡ demand base (loads periods costs spreads own count) x)
       advanced-right a =
           elim (decLe (x + raise) least) [
             | yes l ↦
                 let s = a .stays l in
-                let same : Right x after newSum newLeast = rw (s .0, s .1, s .2) r in
+                let same : Right periods costs spreads own count base x after newSum newLeast = rw (s .0, s .1, s .2) r in
                 (same, right-sum x after newSum newLeast same (λ k m. omega (arith, ap (λ (ms : List ℕ). wordOf ms k) (s .0), r .under k m)))
             | no l ↦
                 let p = a .passes (omega arith) in
@@ -182,21 +180,25 @@ module _ (periods costs spreads : List ℕ) (own count base : ℕ) where
         (turn-found base (loads periods costs spreads own count) start late deadline start 1
         (turn-first base (loads periods costs spreads own count) start late deadline a h) (base + others) next (sym same))
 
-    pub before-first : (old marks : List ℕ) (others start least late deadline : ℕ) → count < length old →
+    -- the first marks are right for the start
+    pub may-follow : (old marks : List ℕ) (others start least late deadline ahead : ℕ) → count < length old →
         Begun periods spreads count (loads periods costs spreads own count) base others start least →
-        Solvable base (loads periods costs spreads own count) start late deadline → start + late ≤ deadline →
+        Solvable base (loads periods costs spreads own count) start late deadline → start + late ≤ deadline → ahead ≡ least - raise →
         marks ≡ set (filled (firstMarkFor periods spreads own) count old) count 0 →
-        Before start late deadline start 1 marks (base + others) least
-    before-first old marks others start least late deadline room b a h e =
+        Followable periods costs spreads own count base start late deadline ahead marks (base + others) least
+    may-follow old marks others start least late deadline ahead room b a h near e =
         record {
-          turn = turn-first base (loads periods costs spreads own count) start late deadline a h;
+          fit = fit;
+          asked = a;
+          inTime = h;
           right = right-first old marks others start least room b e;
           sumHigh = b .onceHigh;
           periodHigh = b .periodHigh;
+          aheadHigh = omega (arith, near, b .leastHigh);
         }
 
     module _ (start late deadline x rounds : ℕ) (marks : List ℕ) (sum least : ℕ) (t : Before start late deadline x rounds marks sum least) where
-      pub x-high : x ≤ 1000000
+      pub x-high : x ≤ 100000000
       x-high = omega (arith, t .turn .inTime, t .turn .asked .deadlineHigh)
 
       pub may-advance : (ahead : ℕ) → ahead ≤ 1000000 → Passable periods costs marks count (x + raise) ahead sum
@@ -217,4 +219,25 @@ module _ (periods costs spreads : List ℕ) (own count base : ℕ) where
                   (advanced-right x ahead marks sum least (t .right) (omega (arith, x-high)) after newSum newLeast a .0);
               sumHigh = omega (arith, t .turn .asked .deadlineHigh);
               periodHigh = t .periodHigh;
+            }
+
+        -- the sequence is late
+        pub followed-late : deadline < newSum + late →
+            FollowedBy periods costs spreads own count base start late deadline true 0 rounds after newLeast
+        followed-late h =
+            record {
+              solved = turn-late base (loads periods costs spreads own count) start late deadline x rounds (t .turn) newSum next-is h;
+              within = omega (arith, t .turn .inTime);
+              held = λ e. absurd (clash true refl e);
+            }
+
+        -- or has come to its end, for which the marks are right
+        pub followed-found : newSum ≡ x → FollowedBy periods costs spreads own count base start late deadline false x rounds after newLeast
+        followed-found same =
+            record {
+              solved = turn-found base (loads periods costs spreads own count) start late deadline x rounds (t .turn) newSum next-is same;
+              within = t .turn .inTime;
+              held = λ e.
+                  subst (λ (n : ℕ). Right periods costs spreads own count base x after n newLeast) same
+                  (advanced-right x ahead marks sum least (t .right) (omega (arith, x-high)) after newSum newLeast a .0);
             }

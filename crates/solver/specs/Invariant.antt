@@ -3,12 +3,15 @@
 use Prim.Native.Nat.{ℕ, _+_, _-_, _*_, _≤_, _<_}
 use mathlib.Core.Path.{_≡_}
 use mathlib.Core.Bool.{Bool, true, false}
+use mathlib.Core.List.{List}
+use lib.ListN.{length}
 use Rattle.model.specs.Choice.{on}
-use Rattle.model.specs.Lists.{gather, sumOf, total}
-use Rattle.model.specs.Tables.{Load}
+use Rattle.model.specs.Lists.{gather, sumOf, total, wordOf}
+use Rattle.model.specs.Tables.{Load, isOther}
 use Rattle.equation.specs.Rounding.{ceilDiv}
 use Rattle.equation.specs.Demand.{demand}
 use Rattle.equation.specs.Laws.{costOf}
+use Rattle.equation.specs.Slices.{loadAt}
 use Rattle.solver.specs.Marks.{raise, never, firstMark, begunPast, movedMark}
 
 -- places, some of which are loads, and a base: the loads are `gather test load count`
@@ -39,6 +42,19 @@ pub record Marked (p : Places) (w : ℕ) (mark : ℕ → ℕ) (sum : ℕ) : Type
   pub notBeyond : (k : ℕ) → k < p .count → p .test k ≡ true → counts k ≤ begunIn p w k
   pub other : (k : ℕ) → k < p .count → p .test k ≡ false → mark k ≡ never
   pub summed : sum ≡ p .base + total (countedAt p counts) (p .count)
+
+-- the places of lent slices: all but the own one are loads
+abbrev pub places : (periods costs spreads : List ℕ) (own count base : ℕ) → Places
+places periods costs spreads own count base =
+    record { test = isOther own; load = loadAt periods costs spreads; count = count; base = base }
+
+-- Over lent slices, from round to round: the marks and the sum are right for x or for a tick before it, no mark is below the least, and a 0
+-- stands behind them.
+pub record Right (periods costs spreads : List ℕ) (own count base x : ℕ) (marks : List ℕ) (sum least : ℕ) : Type 0 where
+  pub marked : Marked (places periods costs spreads own count base) x (wordOf marks) sum
+  pub under : (k : ℕ) → k < count → least ≤ wordOf marks k
+  pub end : wordOf marks count ≡ 0
+  pub room : count < length marks
 
 -- the first marks, where each load has begun one period
 pub record FirstMarks (p : Places) (mark : ℕ → ℕ) : Type 0 where

@@ -6,14 +6,16 @@ ghost use lib.ListN.{length};
 ghost use Rattle.model.specs.Choice.{both};
 ghost use Rattle.equation.specs.Slices.{loads, LoadsFit};
 ghost use Rattle.solver.specs.Marks.{raise, Begun};
-ghost use Rattle.solver.specs.Solver.{Solvable, SolvedBy};
+ghost use Rattle.solver.specs.Solver.{Solvable, SolvedBy, Followable, FollowedBy};
 use model::Ticks;
 
 mod marks;
 
 pub use marks::Mark;
-use marks::Tally;
+pub use marks::Tally;
 pub use marks::least_first;
+pub use marks::look_ahead;
+pub use marks::set_first;
 
 // Whether a task is late, its longest response time, 0 where it is, and the rounds spent on it.
 pub struct Solved {
@@ -22,10 +24,18 @@ pub struct Solved {
     pub rounds: u32,
 }
 
-// Follows the written sequence from `start` to its first equal or late term. A start that is late is answered without a sum, since the next
-// term is no smaller. `others` is one cost of every load, `least` a mark that none of their first marks is below: until x has passed it,
-// each load asks for one cost. Then the loads' marks stand in `marks`, which are scratch words, and each round moves those that x has
-// passed; where it has passed none, the next term is the sum that is there.
+// What following the sequence comes to: whether it is late, and else its last term, which is the smallest solution; the rounds; and a mark that
+// none of the loads' marks is below.
+pub struct Followed {
+    pub late: bool,
+    pub window: Ticks,
+    pub rounds: u32,
+    pub least: Mark,
+}
+
+// The answer of the written sequence from `start` on. A start that is late is answered without a sum, since the next term is no smaller.
+// `others` is one cost of every load, `least` a mark that none of their first marks is below: until x has passed it, each load asks for one
+// cost. Then the loads' marks stand in `marks`, which are scratch words, and the sequence is followed.
 pub fn solve(
     periods: &[u32],
     costs: &[u32],
@@ -46,19 +56,14 @@ pub fn solve(
     ensures { λ r. ⌜ SolvedBy (base .0) (loads (now (periods .entry)) (now (costs .entry)) (now (spreads .entry)) own count) (start .0) (late .0) (deadline .0) (r .late) (r .response .0) (r .rounds) ⌝ }
 {
     let delay = late.0;
-    let due = deadline.0;
-    let mut x = start.0;
-    let mut rounds: u32 = 1;
-    if due < x + delay {
+    if deadline.0 < start.0 + delay {
         return Solved {
             late: true,
             response: Ticks(0),
-            rounds,
+            rounds: 1,
         };
     }
-    // the base as a number of its own: the loop's proof speaks of it, and the loop itself does not
-    let alone = base.0;
-    let once = alone + others.0;
+    let once = base.0 + others.0;
     if ends_at_once(start, Ticks(once), least) {
         return Solved {
             late: false,
@@ -66,13 +71,66 @@ pub fn solve(
             rounds: 1,
         };
     }
-    let limit = (due - delay) as u64;
-    let ahead = marks::look_ahead(least);
     marks::set_first(periods, spreads, own, count, marks);
-    let mut tally = Tally {
-        sum: once as u64,
-        least,
-    };
+    let followed = follow(
+        periods,
+        costs,
+        spreads,
+        own,
+        count,
+        base,
+        start,
+        late,
+        deadline,
+        marks::look_ahead(least),
+        Tally {
+            sum: once as u64,
+            least,
+        },
+        marks,
+    );
+    if followed.late {
+        return Solved {
+            late: true,
+            response: Ticks(0),
+            rounds: followed.rounds,
+        };
+    }
+    Solved {
+        late: false,
+        response: Ticks(followed.window.0 + delay),
+        rounds: followed.rounds,
+    }
+}
+
+// Follows the written sequence from `start`, which is not late, to its first equal or late term. `before` and the marks are right for the
+// start, or for a tick before it. Each round moves the marks that x has passed; where it has passed none, the next term is the sum that is
+// there.
+pub fn follow(
+    periods: &[u32],
+    costs: &[u32],
+    spreads: &[u32],
+    own: usize,
+    count: usize,
+    base: Ticks,
+    start: Ticks,
+    late: Ticks,
+    deadline: Ticks,
+    ahead: Ticks,
+    before: Tally,
+    marks: &mut [u32],
+) -> Followed
+    requires { ⌜ Followable (now periods) (now costs) (now spreads) own count (base .0) (start .0) (late .0) (deadline .0) (ahead .0) (now marks) (before .sum) (before .least .0) ⌝ }
+    ensures { λ r. ⌜ FollowedBy (now (periods .entry)) (now (costs .entry)) (now (spreads .entry)) own count (base .0) (start .0) (late .0) (deadline .0) (r .late) (r .window .0) (r .rounds) (now (marks .exit)) (r .least .0) ⌝ }
+{
+    let delay = late.0;
+    let due = deadline.0;
+    // the base as a number of its own: the loop's proof speaks of it, and the loop itself does not
+    let alone = base.0;
+    let limit = (due - delay) as u64;
+    let mut x = start.0;
+    let mut rounds: u32 = 1;
+    let mut tally = before;
     loop {
         tally = marks::advance(
             periods,
@@ -84,18 +142,21 @@ pub fn solve(
             marks,
         );
         let next = tally.sum;
+        let least = tally.least;
         if limit < next {
-            return Solved {
+            return Followed {
                 late: true,
-                response: Ticks(0),
+                window: Ticks(0),
                 rounds,
+                least,
             };
         }
         if next == x as u64 {
-            return Solved {
+            return Followed {
                 late: false,
-                response: Ticks(x + delay),
+                window: Ticks(x),
                 rounds,
+                least,
             };
         }
         x = next as u32;
