@@ -1,9 +1,8 @@
 // Plays a table tick by tick (SPECIFICATION 9; document 02, L1 and L6): the answers and the verdict of the analysis, found another way.
 ghost use mathlib.Core.Path.{_≡_};
 ghost use Prim.Native.Nat.{_≤_};
-ghost use lib.Dec.{ltb};
 ghost use lib.ListN.{length};
-ghost use Rattle.model.specs.Lists.{largestTo, wordOf};
+ghost use Rattle.model.specs.Lists.{wordOf};
 ghost use Rattle.model.specs.Search.{any};
 ghost use Rattle.tables.specs.Layout.{taskCount, priorityIn};
 ghost use Rattle.tables.specs.Meaning.{TableRight};
@@ -14,6 +13,7 @@ ghost use Rattle.engine.specs.Outcome.{tiedAt, Played};
 use machine::largest;
 use machine::play_all;
 use model::Place;
+use reading::any_delay;
 use response::Verdict;
 use tables::Check;
 use tables::HEAD_SIZE;
@@ -75,18 +75,6 @@ fn play_columns(table: &[u8], words: &[u32], answers: &mut [u32]) -> Verdict
         answers,
     );
     result(answers, n)
-}
-
-// Has a task a delay? All words are put together, which the compiler does several at a time (docs/PERFORMANCE.md).
-fn any_delay(latest: &[u32], n: usize) -> bool
-    requires { ⌜ n ≤ length (now latest) ⌝ }
-    ensures { λ r. ⌜ r ≡ ltb 0 (largestTo (wordOf (now (latest .entry))) n) ⌝ }
-{
-    let mut together: u32 = 0;
-    for i in 0..n {
-        together = together | latest[i];
-    }
-    0 < together
 }
 
 // Has a task the priority of the one before it? Priorities do not rise, so that every tie is found. They are read from the table: the engine

@@ -4,3 +4,4 @@ pub mod RecordLaws
 pub mod RowLaws
 pub mod StageLaws
 pub mod HeldLaws
+pub mod DelayLaws

@@ -1,6 +1,9 @@
 // Reads a table into columns, up to the first fault. Every entry that takes a table reads it here.
 ghost use mathlib.Core.Path.{_≡_};
 ghost use Prim.Native.Nat.{_≤_};
+ghost use lib.Dec.{ltb};
+ghost use lib.ListN.{length};
+ghost use Rattle.model.specs.Lists.{largestTo, wordOf};
 ghost use Rattle.tables.specs.Checks.{readCheck};
 ghost use Rattle.reading.specs.Columns.{recordColumns, rowColumns, recordIn, rowIn, Lent, Filled, recordsReached, rowsReached};
 use tables::Check;
@@ -34,4 +37,16 @@ pub fn read(table: &[u8], span: u32, room: usize, bytes: &mut [u8], words: &mut 
     }
     let m = count(table[ROW_COUNT_AT]);
     rows::read_all(table, layout, n, m, room, bytes, words)
+}
+
+// Has a task a delay? All words are put together, which the compiler does several at a time (docs/PERFORMANCE.md).
+pub fn any_delay(latest: &[u32], n: usize) -> bool
+    requires { ⌜ n ≤ length (now latest) ⌝ }
+    ensures { λ r. ⌜ r ≡ ltb 0 (largestTo (wordOf (now (latest .entry))) n) ⌝ }
+{
+    let mut together: u32 = 0;
+    for i in 0..n {
+        together = together | latest[i];
+    }
+    0 < together
 }

@@ -18,7 +18,9 @@ use Rattle.model.proofs.Tests.{both-true, on-high}
 use Rattle.model.specs.Tables.{Task, Load, taskOf, priorityOf, loadOf, loadFrom, interferes, loadsOf}
 use Rattle.tables.specs.Fields.{taskCountField, rowCountField, periodField, costField, deadlineField, latestField, priorityField, placeField, semaphoreField, longestField, orderField}
 use Rattle.tables.specs.Layout.{taskCount, rowCount, taskAt, rowAt, tasksOf, tableOf, priorityIn, placeIn}
-use Rattle.tables.specs.Meaning.{TableRight}
+use Rattle.tables.specs.Meaning.{TableRightSpanning}
+use Rattle.tables.specs.Checks.{readCheck}
+use Rattle.tables.specs.declared.Check.the-variants.{Clean}
 use Rattle.tables.proofs.LayoutLaws.{layout-sound, task-is, priority-at, tasks-count}
 use Rattle.reading.proofs.ColumnLaws.{holds-filled}
 use Rattle.reading.proofs.HeldLaws.{held-right}
@@ -59,12 +61,12 @@ pub room-for : {n k answers rounds : ℕ} → n ≡ k → (k ≤ answers) × (k 
 room-for e room = (omega (arith, room .0), omega (arith, room .1))
 
 -- a table that the columns for 32 tasks hold has no more
-pub few-tasks : {bytes lent words : List ℕ} {rows : RowColumn → List ℕ} → TableHeld 1 bytes (recordColumns 32 lent words) rows → taskCount bytes ≤ 32
-few-tasks {bytes} {lent} held = omega (arith, held .ofRecords priorityColumn .long, length-take 32 lent)
+pub few-tasks : {span : ℕ} {bytes lent words : List ℕ} {rows : RowColumn → List ℕ} → TableHeld span bytes (recordColumns 32 lent words) rows → taskCount bytes ≤ 32
+few-tasks {span} {bytes} {lent} held = omega (arith, held .ofRecords priorityColumn .long, length-take 32 lent)
 
 -- the priorities, in the bytes that they stand in front of
 pub ranks-held : {bytes lent words : List ℕ} → Lent bytes 32 lent words → {rows : RowColumn → List ℕ} →
-    TableHeld 1 bytes (recordColumns 32 lent words) rows → Ranks bytes lent
+    {span : ℕ} → TableHeld span bytes (recordColumns 32 lent words) rows → Ranks bytes lent
 ranks-held {bytes} {lent} room held =
     let column = held .ofRecords priorityColumn in
     let few = few-tasks held in
@@ -74,7 +76,7 @@ ranks-held {bytes} {lent} room held =
     }
 
 -- a slice of zeros that has a word for each task
-pub zeros-lent : {bytes lent words : List ℕ} {rows : RowColumn → List ℕ} → TableHeld 1 bytes (recordColumns 32 lent words) rows →
+pub zeros-lent : {span : ℕ} {bytes lent words : List ℕ} {rows : RowColumn → List ℕ} → TableHeld span bytes (recordColumns 32 lent words) rows →
     Zeros (replicate 32 0) (taskCount bytes)
 zeros-lent held =
     let few = few-tasks held in
@@ -83,9 +85,9 @@ zeros-lent held =
       each = λ i h. getD-replicate {A = ℕ} 32 i 0 0 (omega (arith, few));
     }
 
-module _ (bytes : List ℕ) (records : RecordColumn → List ℕ) (rows : RowColumn → List ℕ) (held : TableHeld 1 bytes records rows)
+module _ {span : ℕ} (bytes : List ℕ) (records : RecordColumn → List ℕ) (rows : RowColumn → List ℕ) (held : TableHeld span bytes records rows)
     (ranks : List ℕ) (ranksHeld : Ranks bytes ranks) (n : ℕ) (tasksCounted : n ≡ taskCount bytes) where
-  right : TableRight bytes
+  right : TableRightSpanning span bytes
   right = held-right held
 
   inside : {i : ℕ} → i < n → i < taskCount bytes
@@ -248,10 +250,10 @@ module _ (bytes : List ℕ) (records : RecordColumn → List ℕ) (rows : RowCol
       rounds-agree start = rw (base-is, loads-agree, latest-is, deadline-is)
 
     -- the answers of the columns are the outcome for the bytes
-    pub table-answered : (start : Start) (answers rounds : List ℕ) → (n ≤ length answers) × (n ≤ length rounds) → (v : Verdict)
+    pub table-answered : readCheck 1 bytes ≡ Clean → (start : Start) (answers rounds : List ℕ) → (n ≤ length answers) × (n ≤ length rounds) → (v : Verdict)
         (answersLeft roundsLeft : List ℕ) →
         Answered start (decodedFrom ranks records blocked) n v (slice answers answersLeft) (slice rounds roundsLeft) →
         Outcome start (lending bytes answers rounds) (leaving v answersLeft roundsLeft)
-    table-answered start answers rounds room v answersLeft roundsLeft a =
-        answered start bytes answers rounds (held .clean) n tasksCounted (room .0) (room .1) (decodedFrom ranks records blocked) v
+    table-answered clean start answers rounds room v answersLeft roundsLeft a =
+        answered start bytes answers rounds clean n tasksCounted (room .0) (room .1) (decodedFrom ranks records blocked) v
         answersLeft roundsLeft a answer-agrees (λ i h. rounds-agree i h start)

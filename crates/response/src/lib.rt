@@ -1,6 +1,6 @@
 // The public entry: the bytes of one table and two lent slices in, a verdict out, answers and rounds in the slices.
 ghost use mathlib.Core.Path.{_≡_};
-ghost use Prim.Native.Nat.{_≤_, _<_};
+ghost use Prim.Native.Nat.{ℕ, _≤_, _<_};
 ghost use lib.Dec.{leb};
 ghost use lib.ListN.{length};
 ghost use Rattle.model.specs.Choice.{both};
@@ -81,7 +81,7 @@ pub fn analyse_from(start: Start, table: &[u8], answers: &mut [u32], rounds: &mu
 }
 
 // Is there a word for each of n tasks in both slices?
-fn room(n: usize, answers: usize, rounds: usize) -> bool
+pub fn room(n: usize, answers: usize, rounds: usize) -> bool
     ensures { λ r. ⌜ r ≡ both (leb n answers) (leb n rounds) ⌝ }
 {
     if answers < n {
@@ -90,10 +90,10 @@ fn room(n: usize, answers: usize, rounds: usize) -> bool
     n <= rounds
 }
 
-// B of each task of a table that the columns hold, in a slice that has a zero for each.
+// B of each task of a table that the columns hold, however many periods its deadlines may span, in a slice that has a zero for each.
 pub fn find_blocking(table: &[u8], bytes: &[u8], words: &[u32], held: &mut [u32])
     requires { ⌜ Lent (now table) 32 (now bytes) (now words) ⌝ }
-    requires { ⌜ TableHeld 1 (now table) (recordColumns 32 (now bytes) (now words)) (rowColumns 32 (now bytes) (now words)) ⌝ }
+    requires { ⌜ ((span : ℕ) × TableHeld span (now table) (recordColumns 32 (now bytes) (now words)) (rowColumns 32 (now bytes) (now words))) ⌝ }
     requires { ⌜ Zeros (now held) (taskCount (now table)) ⌝ }
     ensures { λ _. ⌜ now (held .exit) ≡ filled (blockingOf (tableOf (now (table .entry)))) (taskCount (now (table .entry))) (now (held .entry)) ⌝ }
 {

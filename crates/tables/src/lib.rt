@@ -52,6 +52,9 @@ pub const MOST_SEMAPHORE: u32 = 16;
 // How many periods a deadline may span: "D is 1 to T" (SPECIFICATION 2.3; document 01).
 pub const ONE_PERIOD: u32 = 1;
 
+// "D may be up to 4T here" (SPECIFICATION 13.8; document 02, L8): in the second analysis alone.
+pub const FOUR_PERIODS: u32 = 4;
+
 // A byte's place in the table, counted from its first byte. It is no task's place.
 pub struct Offset(pub usize);
 

@@ -12,7 +12,7 @@ shared-slice-read-count : tie.Need-shared-slice-read-count
 shared-slice-read-count c = omega (arith, held-right (c .before .before .before .before .before .pre .1 .1) .head .longEnough)
 
 find-blocking-requires : tie.Need-find-blocking-requires
-find-blocking-requires c κs = (c .before .before .before .before .before .before .before .pre .0, (c .before .before .before .before .before .before .before .pre .1 .1, zeros-lent (c .before .before .before .before .before .before .before .pre .1 .1)))
+find-blocking-requires c κs = (c .before .before .before .before .before .before .before .pre .0, ((1, c .before .before .before .before .before .before .before .pre .1 .1), zeros-lent (c .before .before .before .before .before .before .before .pre .1 .1)))
 
 check-all-requires : tie.Need-check-all-requires
 check-all-requires c κs = (decoded-fits _ _ _ (c .before .before .before .before .before .before .before .before .before .before .before .before .before .before .before .pre .1 .1) _ (ranks-held (c .before .before .before .before .before .before .before .before .before .before .before .before .before .before .before .pre .0) (c .before .before .before .before .before .before .before .before .before .before .before .before .before .before .before .pre .1 .1)) _ (c .before .before .before .before .before .before .before .before .before .count .ensures .0) _ _ (omega (arith, few-tasks (c .before .before .before .before .before .before .before .before .before .before .before .before .before .before .before .pre .1 .1), c .before .before .before .before .before .before .before .before .before .count .ensures .0)) (c .before .before .before .before .before .before .before .find-blocking .ensures), omega (arith, c .before .before .before .before .before .before .before .before .before .before .before .before .before .before .before .pre .1 .0, c .before .before .before .before .before .before .before .before .before .count .ensures .0))

@@ -8,16 +8,16 @@ use Rattle.response.proofs.find_blocking.Statement.{statement}
 use Rattle.response.proofs.find_blocking.Tie as tie
 
 shared-slice-read-count : tie.Need-shared-slice-read-count
-shared-slice-read-count c = omega (arith, held-right (c .before .before .before .before .before .pre .1 .0) .head .longEnough)
+shared-slice-read-count c = omega (arith, held-right (c .before .before .before .before .before .pre .1 .0 .1) .head .longEnough)
 
 shared-slice-read-count-2 : tie.Need-shared-slice-read-count-2
-shared-slice-read-count-2 c = omega (arith, held-right (c .before .before .before .before .before .before .before .pre .1 .0) .head .longEnough)
+shared-slice-read-count-2 c = omega (arith, held-right (c .before .before .before .before .before .before .before .pre .1 .0 .1) .head .longEnough)
 
 blocking-requires : tie.Need-blocking-requires
-blocking-requires c κs = (rows-held _ _ _ (c .before .before .before .before .before .before .before .before .before .before .before .before .pre .1 .0) _ (ranks-held (c .before .before .before .before .before .before .before .before .before .before .before .before .pre .0) (c .before .before .before .before .before .before .before .before .before .before .before .before .pre .1 .0)) _ (c .before .before .before .before .before .before .count .ensures .0) _ (c .before .before .before .before .count2 .ensures .0), rw (c .before .before .before .before .before .before .count .ensures .0) (c .before .before .before .before .before .before .before .before .before .before .before .before .pre .1 .1))
+blocking-requires c κs = (rows-held _ _ _ (c .before .before .before .before .before .before .before .before .before .before .before .before .pre .1 .0 .1) _ (ranks-held (c .before .before .before .before .before .before .before .before .before .before .before .before .pre .0) (c .before .before .before .before .before .before .before .before .before .before .before .before .pre .1 .0 .1)) _ (c .before .before .before .before .before .before .count .ensures .0) _ (c .before .before .before .before .count2 .ensures .0), rw (c .before .before .before .before .before .before .count .ensures .0) (c .before .before .before .before .before .before .before .before .before .before .before .before .pre .1 .1))
 
 returns : tie.Need-returns
-returns c = blocking-found _ _ _ (c .before .before .before .before .before .before .before .before .before .before .before .before .before .before .before .pre .1 .0) _ (ranks-held (c .before .before .before .before .before .before .before .before .before .before .before .before .before .before .before .pre .0) (c .before .before .before .before .before .before .before .before .before .before .before .before .before .before .before .pre .1 .0)) _ (c .before .before .before .before .before .before .before .before .before .count .ensures .0) _ (c .before .before .before .before .before .before .before .count2 .ensures .0) _ _ (c .before .before .blocking .ensures)
+returns c = blocking-found _ _ _ (c .before .before .before .before .before .before .before .before .before .before .before .before .before .before .before .pre .1 .0 .1) _ (ranks-held (c .before .before .before .before .before .before .before .before .before .before .before .before .before .before .before .pre .0) (c .before .before .before .before .before .before .before .before .before .before .before .before .before .before .before .pre .1 .0 .1)) _ (c .before .before .before .before .before .before .before .before .before .count .ensures .0) _ (c .before .before .before .before .before .before .before .count2 .ensures .0) _ _ (c .before .before .blocking .ensures)
 
 pub find-blocking-spec : {M : Type 1} → statement M
 find-blocking-spec =

@@ -1,10 +1,10 @@
--- `engine::any_delay` meets its contract: each turn puts one word more to the others.
+-- `reading::any_delay` meets its contract: each turn puts one word more to the others.
 -- Assumes nothing.
 use Prim.Native.Nat.{_-_}
 use native.Mathlib.Omega.{arith}
-use Rattle.engine.proofs.PlayedLaws.{Together, together-first, together-more, together-all}
-use Rattle.engine.proofs.any_delay.Statement.{statement}
-use Rattle.engine.proofs.any_delay.Tie as tie
+use Rattle.reading.proofs.DelayLaws.{Together, together-first, together-more, together-all}
+use Rattle.reading.proofs.any_delay.Statement.{statement}
+use Rattle.reading.proofs.any_delay.Tie as tie
 
 abbrev Inv-loop : tie.InvT-loop
 Inv-loop latest n together₀ i₀ together i = Together latest n i together
