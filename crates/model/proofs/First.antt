@@ -101,3 +101,16 @@ module _ {A : Type 0} (clean : A → Bool) (none : A) where
   unfolding firstOf
   first-same f g zero h = refl
   first-same f g (suc n) h = rw (first-same f g n (λ k l. h k (omega arith)), h n (omega arith))
+
+-- what is found, told in another way: where clean answers are told as clean ones
+module _ {A : Type 0} {B : Type 0} (clean : A → Bool) (none : A) (other : B → Bool) (nothing : B) (told : A → B) where
+  pub first-told : told none ≡ nothing → ((x : A) → clean x ≡ other (told x)) → (f : ℕ → A) (g : ℕ → B) (n : ℕ) →
+      ((k : ℕ) → k < n → told (f k) ≡ g k) → told (firstOf clean none f n) ≡ firstOf other nothing g n
+  unfolding firstOf
+  first-told base agree f g zero same = base
+  first-told base agree f g (suc n) same =
+      let before = first-told base agree f g n (λ k h. same k (omega arith)) in
+      elim (bool? (clean (firstOf clean none f n))) [
+        | inl p ↦ rw (p, sym (ap other before) ∙ sym (agree (firstOf clean none f n)) ∙ p) (same n (omega arith))
+        | inr p ↦ rw (p, sym (ap other before) ∙ sym (agree (firstOf clean none f n)) ∙ p) before
+      ]

@@ -215,11 +215,17 @@ module _ {span : ℕ} (bytes : List ℕ) (records : RecordColumn → List ℕ) (
       own : taskOf (tasksOf bytes) i ≡ taskAt bytes i
       own = task-is bytes i (inside h)
 
+      pub cost-is : getD (records costColumn) i 0 ≡ taskOf (tasksOf bytes) i .cost
+      cost-is = held .ofRecords costColumn .read i (inside h) ∙ sym (ap (λ (t : Task). t .cost) own)
+
+      pub blocked-is : getD blocked i 0 ≡ blockingOf (tableOf bytes) i
+      blocked-is = blockedHeld .read i h
+
       pub base-is : getD (records costColumn) i 0 + getD blocked i 0 ≡ baseOf (tableOf bytes) i
-      base-is =
-          let cost : getD (records costColumn) i 0 ≡ taskOf (tasksOf bytes) i .cost =
-          held .ofRecords costColumn .read i (inside h) ∙ sym (ap (λ (t : Task). t .cost) own) in
-          omega (arith, cost, blockedHeld .read i h)
+      base-is = omega (arith, cost-is, blocked-is)
+
+      pub period-is : getD (records periodColumn) i 0 ≡ taskOf (tasksOf bytes) i .period
+      period-is = held .ofRecords periodColumn .read i (inside h) ∙ sym (ap (λ (t : Task). t .period) own)
 
       pub loads-agree : loadsIn (decodedFrom ranks records blocked) n i ≡ loadsOf (tasksOf bytes) i
       loads-agree =

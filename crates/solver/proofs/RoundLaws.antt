@@ -45,6 +45,25 @@ module _ (periods costs spreads : List ℕ) (own count base : ℕ) where
     pub sumHigh : sum ≤ 1000000000
     pub periodHigh : PeriodsHigh periods count
 
+  -- As much more asked for as ticks more have come: the marks are right as they stand.
+  pub right-raised : (more w : ℕ) (marks : List ℕ) (least : ℕ) → Right periods costs spreads own count base w marks w least →
+      Right periods costs spreads own count (base + more) (w + more) marks (w + more) least
+  right-raised more w marks least r =
+      let later = marksRight .later (places periods costs spreads own count base) w (w + more) (wordOf marks) w (omega arith) (r .marked) in
+      record {
+        marked =
+            record {
+              counts = later .counts;
+              held = later .held;
+              notBeyond = later .notBeyond;
+              other = later .other;
+              summed = omega (arith, later .summed);
+            };
+        under = r .under;
+        end = r .end;
+        room = r .room;
+      }
+
   pub before-first : (start late deadline ahead : ℕ) (marks : List ℕ) (sum least : ℕ) →
       Followable periods costs spreads own count base start late deadline ahead marks sum least → Before start late deadline start 1 marks sum least
   before-first start late deadline ahead marks sum least f =

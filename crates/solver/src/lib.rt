@@ -165,7 +165,7 @@ pub fn follow(
 }
 
 // Is the start one cost of everything, and has it passed no mark? Then it is the next term too.
-fn ends_at_once(start: Ticks, once: Ticks, least: Mark) -> bool
+pub fn ends_at_once(start: Ticks, once: Ticks, least: Mark) -> bool
     requires { ⌜ start .0 ≤ 1000000000 ⌝ }
     ensures { λ r. ⌜ r ≡ both (eqb (start .0) (once .0)) (leb (start .0 + raise) (least .0)) ⌝ }
 {

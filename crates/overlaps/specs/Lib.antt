@@ -1,0 +1,5 @@
+pub mod Overlaps
+pub mod Outcome
+pub mod Columns
+pub mod Numbers
+pub mod Statements
