@@ -7,7 +7,7 @@ runs tick by tick. The engine of document 02, L1, is played from event to event,
 knows nothing of the equation. Sentences in double quotation marks are document 01's,
 or L1's where the engine is spoken of, L3's where the places of refusals are, L4's
 where version 2 or delays are, L5's where the starts are, L6's where tasks that share a
-priority are, and L7's where claims are.
+priority are, L7's where claims are, and L8's where deadlines past the period are.
 
 Needs Python 3.7 or later and nothing else.
 """
@@ -136,13 +136,23 @@ def check_header(data):
     return layout, task_count, row_count
 
 
-def task_rules(task, before):
+# How many periods a deadline may span: "D is 1 to T"; in the second analysis "D may be up to 4T
+# here and at most 1,000,000".
+ONE_PERIOD = 1
+PERIODS_PAST = 4
+
+
+def greatest_deadline(period, span):
+    return min(span * period, GREATEST_TICKS)
+
+
+def task_rules(task, before, span):
     """For each field of a record, in the order tested: the refusal where it is faulty, and whether
     it is right. An earliest delay that was not read is 0, and right."""
     # "T and C are 1 to 1,000,000. D is 1 to T. J is 0 to 1,000,000."
     yield "period", 5, 1 <= task.period <= GREATEST_TICKS
     yield "cost", 5, 1 <= task.cost <= GREATEST_TICKS
-    yield "deadline", 5, 1 <= task.deadline <= task.period
+    yield "deadline", 5, 1 <= task.deadline <= greatest_deadline(task.period, span)
     # "earliest at most latest, both at most 1,000,000, else refusal 5"; "a faulty delay points at
     # the earliest if that is out of range, else at the latest".
     yield "earliest", 5, 0 <= task.earliest <= GREATEST_TICKS
@@ -164,12 +174,12 @@ def row_rules(row, before, tasks):
     yield "order", 7, before is None or row[:2] > before[:2]
 
 
-def check_tasks(layout, tasks):
+def check_tasks(layout, tasks, span=ONE_PERIOD):
     # "Task records are taken in order, each tested for 5 and then 6"; the place of a refusal is
     # "the byte offset of the first faulty field".
     before = None
     for number, task in enumerate(tasks):
-        for field, refusal, right in task_rules(task, before):
+        for field, refusal, right in task_rules(task, before, span):
             if not right:
                 raise Refused(refusal, task_byte(layout, number, field))
         before = task
@@ -184,21 +194,30 @@ def check_rows(layout, rows, tasks):
         before = row
 
 
-def read_bytes(data):
+def read_bytes(data, span=ONE_PERIOD):
     """Gives the tasks and the rows, or raises the first of refusals 1 to 7 that applies."""
     layout, task_count, row_count = check_header(data)
     tasks = [read_task(data, layout, number) for number in range(task_count)]
-    check_tasks(layout, tasks)
+    check_tasks(layout, tasks, span)
     rows = [read_row(data, layout, task_count, number) for number in range(row_count)]
     check_rows(layout, rows, tasks)
     return tasks, rows
 
 
-def read_table(data, answers_length, rounds_length):
+def read_table(data, answers_length, rounds_length, span=ONE_PERIOD):
     """The same with refusal 8."""
-    tasks, rows = read_bytes(data)
+    tasks, rows = read_bytes(data, span)
     # "an answer slice has fewer than n words"
     refuse_when(min(answers_length, rounds_length) < len(tasks), 8)
+    return tasks, rows
+
+
+def read_past(data, answers_length, tried_length):
+    """The same for the second analysis, with refusal 11."""
+    tasks, rows = read_table(data, answers_length, tried_length, PERIODS_PAST)
+    # "Any nonzero delay is refused with 11, after 8, place 0, no word changed." The earliest is at
+    # most the latest.
+    refuse_when(any(task.latest for task in tasks), 11)
     return tasks, rows
 
 
@@ -347,6 +366,47 @@ def rounds_of(tasks, rows, start=DEFAULT_START):
 
 
 # ---------------------------------------------------------------------------
+# The second analysis: deadlines past the period
+# ---------------------------------------------------------------------------
+
+# "It is "open" exactly if q = 0 to 63 all give R(q) above T and within D." The first slice gets
+# "0 for late and 4,294,967,295 for open".
+MOST_TRIED = 64
+LATE = 0
+OPEN = 4294967295
+
+# A task's answer, and "the number of q tried".
+Found = collections.namedtuple("Found", "answer tried")
+
+
+def response_behind(earlier, task, base, loads, search=skipping_search):
+    # "find the smallest w equal to B + (1 + q)C plus interference, and R(q) = w - qT"; q is the
+    # number of earlier jobs of the task, and the base is C + B. None where R(q) "exceeds D or has no
+    # w": there is none up to D + qT.
+    passed = earlier * task.period
+    window = search(base + earlier * task.cost, loads, task.deadline + passed)
+    return None if window is None else window - passed
+
+
+def found_past(task, base, loads, search=skipping_search):
+    longest = 0
+    for earlier in range(MOST_TRIED):
+        response = response_behind(earlier, task, base, loads, search)
+        # "A task is late as soon as some R(q) exceeds D or has no w."
+        if response is None:
+            return Found(LATE, earlier + 1)
+        # "stop at the first R(q) <= T; the answer is the largest".
+        longest = max(longest, response)
+        if response <= task.period:
+            return Found(longest, earlier + 1)
+    return Found(OPEN, MOST_TRIED)
+
+
+def all_found_past(tasks, rows):
+    return [found_past(task, *parts_of(place, tasks, rows)) for place, task in enumerate(tasks)]
+
+
+# ---------------------------------------------------------------------------
 # Claimed response times
 # ---------------------------------------------------------------------------
 
@@ -406,15 +466,33 @@ def list_line(text, data):
 # The program's text
 # ---------------------------------------------------------------------------
 
-def task_line(place, task, response, rounds):
-    word = "response %d" % response if response else "late"
-    return "%d %s deadline %d rounds %d" % (place, word, task.deadline, rounds)
+# The words for the answers that are no response; the first analysis has no open one.
+WORDS = {LATE: "late", OPEN: "open"}
 
 
-def verdict_line(responses):
-    # Document 01: "schedulable" or "late" with the first place whose answer is 0.
-    late_places = [place for place, response in enumerate(responses) if response == 0]
-    return "late %d" % late_places[0] if late_places else "schedulable"
+def task_line(place, task, answer, count_name, count):
+    word = WORDS.get(answer, "response %d" % answer)
+    return "%d %s deadline %d %s %d" % (place, word, task.deadline, count_name, count)
+
+
+def verdict_line(answers):
+    # Document 01: "schedulable" or "late" with the first place whose answer is 0. L8:
+    # ""schedulable", or "late" or "open" with the place of the first such task".
+    for place, answer in enumerate(answers):
+        if answer in WORDS:
+            return "%s %d" % (WORDS[answer], place)
+    return "schedulable"
+
+
+def lines_text(lines):
+    return "".join(line + "\n" for line in lines)
+
+
+def answers_text(tasks, answers, count_name, counts):
+    lines = ["tasks %d" % len(tasks)]
+    lines += map(task_line, itertools.count(), tasks, answers, itertools.repeat(count_name), counts)
+    lines.append(verdict_line(answers))
+    return lines_text(lines)
 
 
 def text_of(data, answers_length=MOST_TASKS, rounds_length=MOST_TASKS, start=DEFAULT_START):
@@ -424,11 +502,22 @@ def text_of(data, answers_length=MOST_TASKS, rounds_length=MOST_TASKS, start=DEF
         tasks, rows = read_table(data, answers_length, rounds_length)
     except Refused as refusal:
         return "%s\n" % refusal
-    responses = responses_of(tasks, rows)
-    lines = ["tasks %d" % len(tasks)]
-    lines += map(task_line, itertools.count(), tasks, responses, rounds_of(tasks, rows, start))
-    lines.append(verdict_line(responses))
-    return "".join(line + "\n" for line in lines)
+    return answers_text(tasks, responses_of(tasks, rows), "rounds", rounds_of(tasks, rows, start))
+
+
+def past_text_of(data, answers_length=MOST_TASKS, tried_length=MOST_TASKS):
+    """The same of the second analysis."""
+    try:
+        tasks, rows = read_past(data, answers_length, tried_length)
+    except Refused as refusal:
+        return "%s\n" % refusal
+    answers, tried = zip(*all_found_past(tasks, rows))
+    # "the second gets the number of q tried in place of rounds"
+    return answers_text(tasks, answers, "tried", tried)
+
+
+def words_line(name, words):
+    return " ".join([name, *map(str, words)])
 
 
 def own_cost_line(entry):
@@ -437,8 +526,19 @@ def own_cost_line(entry):
         tasks, rows = read_table(*entry)
     except Refused:
         return "own cost"
-    return " ".join(["own cost"] + [str(rounds)
-                                    for rounds in rounds_of(tasks, rows, Start.OWN_COST)])
+    return words_line("own cost", rounds_of(tasks, rows, Start.OWN_COST))
+
+
+def past_lines(entry):
+    """The second analysis's verdict or refusal, and what it leaves in each slice; nothing in a
+    refused table's."""
+    try:
+        tasks, rows = read_past(*entry)
+    except Refused as refusal:
+        return ["past period %s" % refusal, "found", "tried"]
+    answers, tried = zip(*all_found_past(tasks, rows))
+    return ["past period %s" % verdict_line(answers), words_line("found", answers),
+            words_line("tried", tried)]
 
 
 # ---------------------------------------------------------------------------
@@ -2419,6 +2519,31 @@ def group_entries(generator):
     yield from group_slice_entries()
 
 
+# ---------------------------------------------------------------------------
+# Made tables with deadlines past the period
+# ---------------------------------------------------------------------------
+
+WorkedPast = collections.namedtuple("WorkedPast", "tasks rows answers tried")
+
+
+def worked_past(tasks, answers, tried, rows=(), groups=None):
+    tasks = listed(*tasks)
+    if groups:
+        tasks = in_groups(tasks, *groups)
+    return WorkedPast(tasks, listed_rows(*rows), answers, tried)
+
+
+# All worked out by hand.
+PAST_TABLES = [
+    # 001's example, "its process 2 standing first": R is 15, then 20 - 10 is 10.
+    worked_past([(20, 10, 20), (10, 5, 20)], [10, 15], [1, 2]),
+]
+
+
+def past_period_entries(_generator):
+    yield from in_both_versions(PAST_TABLES)
+
+
 SEED = 20240101
 
 
@@ -2436,6 +2561,7 @@ def all_entries():
     yield from delay_entries(Generator(SEED + 6))
     yield from start_entries(Generator(SEED + 7))
     yield from group_entries(Generator(SEED + 8))
+    yield from past_period_entries(Generator(SEED + 11))
 
 
 def entry_bytes(entry):
@@ -2445,8 +2571,8 @@ def entry_bytes(entry):
 
 
 def entry_text(number, entry):
-    return "table %d\n%sstayed\nengine %s\n%s\n" % (number, text_of(*entry), engine_line(entry),
-                                                     own_cost_line(entry))
+    return "table %d\n%s%s" % (number, text_of(*entry), lines_text([
+        "stayed", "engine %s" % engine_line(entry), own_cost_line(entry), *past_lines(entry)]))
 
 
 # ---------------------------------------------------------------------------
@@ -2955,6 +3081,13 @@ def check_documents(checks):
         if wanted is None:
             text = None if text.startswith("tasks ") else text
         checks.same(text, wanted, "edge %d" % number)
+
+
+def check_past_tables(checks):
+    for number, table in enumerate(PAST_TABLES):
+        wanted = list(map(Found, table.answers, table.tried))
+        checks.same(all_found_past(table.tasks, table.rows), wanted,
+                    "table %d past the period" % number)
 
 
 def check_faults(checks):
@@ -3731,7 +3864,7 @@ def command_answer(arguments):
     else:
         with open(arguments.file, "rb") as source:
             data = source.read(MOST_BYTES_TAKEN)
-    sys.stdout.write(text_of(data))
+    sys.stdout.write(past_text_of(data) if arguments.past_period else text_of(data))
 
 
 def write_file(folder, name, data):
@@ -3761,6 +3894,7 @@ def command_check(_arguments):
     checks = Checks()
     entries = list(all_entries())
     check_documents(checks)
+    check_past_tables(checks)
     check_faults(checks)
     check_entries(checks, entries)
     check_both_versions(checks, entries)
@@ -3824,11 +3958,17 @@ under test prints "changed" instead of "stayed" if a word past n, or any word on
 longer the filler; and a further line "differs" if the engine's verdict or words are not the
 analysis's where neither refuses, or if a refusal of the engine's changed a word.)
 
+Then come three lines of the second analysis, which is lent two slices of the same lengths: "past
+period" with its verdict or refusal, the last line of its text; "found" with each task's answer, %d
+for an open one; and "tried" with the number of q tried for each. Both have nothing more for a
+refused table. (A program under test prints a further line "differs" behind these if a word past n,
+or any word on a refusal, is no longer the filler.)
+
 An entry of "claims" is 2 bytes, big-endian, with the table's length; 1 byte with the number of
 claims; the table's bytes; and each claim as 4 bytes, big-endian. "expected-claims" holds for each
 entry K, counted from 0, a line "claims K" and a line with "pass", "fails" and the first place that
 fails, or the refusal.
-""" % (FILLER, FILLER)
+""" % (FILLER, FILLER, OPEN)
 
 CLASSES_HELP = """writes one table for each class that is measured, FOLDER/NAME.table, and prints
 for each a line with its name, two numbers of repeats whose difference is to be taken, and a
@@ -3846,6 +3986,7 @@ def parse_arguments():
     commands = parser.add_subparsers(dest="command", required=True, metavar="COMMAND")
 
     answer = commands.add_parser("answer", help="print the program's text for one table")
+    answer.add_argument("--past-period", action="store_true", help="that of the second analysis")
     answer.add_argument("file", nargs="?", metavar="FILE", help="else standard input")
     answer.set_defaults(run=command_answer)
 
