@@ -1320,6 +1320,13 @@ def alternating_faults(generator):
             yield spoiled_entry(generator, draft, refusals)
 
 
+def with_short_slices(spoiled):
+    """With the refusal that the slices ask for too, which comes before 11."""
+    entry = spoiled.entry
+    short = min(entry.answers_length, entry.rounds_length) < entry.table[TASK_COUNT_BYTE]
+    return spoiled._replace(refusals=spoiled.refusals + [Asked(8, 0, (8,))] * short)
+
+
 def first_asked(refusals):
     """The first of these in the order of the checks."""
     return min(refusals, key=lambda asked: asked.turn)
@@ -2526,22 +2533,498 @@ def group_entries(generator):
 WorkedPast = collections.namedtuple("WorkedPast", "tasks rows answers tried")
 
 
-def worked_past(tasks, answers, tried, rows=(), groups=None):
+def blocking_rows(count, section):
+    """A section of the last of so many tasks blocks all others."""
+    return listed_rows((0, 1, 1), (count - 1, 1, section))
+
+
+def worked_past(tasks, answers, tried, blocked=0, groups=None):
+    """All tasks but the last are blocked for so many ticks. Groups are the sizes of those that share
+    a priority."""
     tasks = listed(*tasks)
     if groups:
         tasks = in_groups(tasks, *groups)
-    return WorkedPast(tasks, listed_rows(*rows), answers, tried)
+    rows = blocking_rows(len(tasks), blocked) if blocked else []
+    return WorkedPast(tasks, rows, answers, tried)
 
 
-# All worked out by hand.
+# All worked out by hand; a comment that gives numbers gives the R(q) of the task with the most.
 PAST_TABLES = [
-    # 001's example, "its process 2 standing first": R is 15, then 20 - 10 is 10.
+    # 001's example, "its process 2 standing first": 15, 10. Then the other way round, and with the
+    # second deadline at 15, at 14 and cut to the period.
     worked_past([(20, 10, 20), (10, 5, 20)], [10, 15], [1, 2]),
+    worked_past([(10, 5, 20), (20, 10, 20)], [5, 20], [1, 1]),
+    worked_past([(20, 10, 20), (10, 5, 15)], [10, 15], [1, 2]),
+    worked_past([(20, 10, 20), (10, 5, 14)], [10, LATE], [1, 1]),
+    worked_past([(20, 10, 20), (10, 5, 10)], [10, LATE], [1, 1]),
+    # 001's exercise 2, as printed and with the last deadline cut to the period.
+    worked_past([(30, 5, 30), (20, 5, 20), (15, 5, 20)], [5, 10, 15], [1, 1, 1]),
+    worked_past([(30, 5, 30), (20, 5, 20), (15, 5, 15)], [5, 10, 15], [1, 1, 1]),
+    # One task. No second job waits; then D < R(0) <= T, which is late all the same.
+    worked_past([(1, 1, 4)], [1], [1]),
+    worked_past([(10, 10, 40)], [10], [1]),
+    worked_past([(10, 5, 5)], [5], [1]),
+    worked_past([(10, 5, 4)], [LATE], [1]),
+    worked_past([(20, 10, 20), (40, 10, 15)], [10, LATE], [1, 1]),
+    # Late at q = 1, 2 and 3: 14, 18; 14, 18, 22; 2, 3, 4, 5. Late at once.
+    worked_past([(10, 14, 15)], [LATE], [2]),
+    worked_past([(10, 14, 18)], [LATE], [3]),
+    worked_past([(1, 2, 4)], [LATE], [4]),
+    worked_past([(1, 5, 4)], [LATE], [1]),
+    # 33, 34, 35 and so on up to 96: open. 23 up to 86, which is late at q = 63, or open.
+    worked_past([(32, 33, 128)], [OPEN], [64]),
+    worked_past([(22, 23, 85)], [LATE], [64]),
+    worked_past([(22, 23, 86)], [OPEN], [64]),
+    # 2 for every q. The second task has no w at all.
+    worked_past([(1, 1, 4), (100, 1, 100)], [OPEN, LATE], [64, 1], blocked=1),
+    # 127, 126 and so on: 64 at q = 63, where it ends; with one tick more 65 there, and open.
+    worked_past([(64, 63, 256), (5000, 64, 5000)], [127, 4096], [64, 1], blocked=64),
+    worked_past([(64, 63, 256), (5000, 65, 5000)], [OPEN, 4160], [64, 1], blocked=65),
+    # The same where a more urgent task takes the ticks: the load is 1, and the second jobs of both
+    # come together at 4,096 and 4,160 first.
+    worked_past([(4096, 64, 4096), (64, 63, 256)], [64, 127], [1, 64]),
+    worked_past([(4160, 65, 4160), (64, 63, 256)], [65, OPEN], [1, 64]),
+    # 40, which is 4T, 39 and so on: 10 at q = 30. A tick less is late at once.
+    worked_past([(10, 9, 40), (1000, 31, 4000)], [40, 310], [31, 1], blocked=31),
+    worked_past([(10, 9, 39), (1000, 31, 4000)], [LATE, 310], [1, 1], blocked=31),
+    # 114, 102, 116, 104, 118, 106, 94: the longest is neither the first nor the last but one. Late
+    # at q = 4, at q = 2 and at once.
+    worked_past([(70, 26, 70), (100, 62, 118)], [26, 118], [1, 7]),
+    worked_past([(70, 26, 70), (100, 62, 117)], [26, LATE], [1, 5]),
+    worked_past([(70, 26, 70), (100, 62, 115)], [26, LATE], [1, 3]),
+    worked_past([(70, 26, 70), (100, 62, 113)], [26, LATE], [1, 1]),
+    # The load is above 1: 17, 17, 22, 22, 22, 27.
+    worked_past([(10, 5, 10), (12, 7, 22)], [5, LATE], [1, 6]),
+    # A section of the last task, which holds up the second: 25, 21, 17, 13. The last: 58, 50, 68.
+    worked_past([(10, 4, 20), (15, 7, 60), (40, 6, 67)], [10, 25, LATE], [1, 4, 3], blocked=6),
+    worked_past([(10, 4, 20), (15, 7, 25), (40, 6, 57)], [10, 25, LATE], [1, 4, 1], blocked=6),
+    # The load is 1: 7, 6; the other way round 5, 6, 4; with one priority for both these and those.
+    # Then 7, 5, 8, 6, 4. Late at q = 1, and at q = 2.
+    worked_past([(4, 2, 16), (6, 3, 24)], [2, 7], [1, 2]),
+    worked_past([(6, 3, 24), (4, 2, 16)], [3, 6], [1, 3]),
+    worked_past([(6, 3, 24), (4, 2, 5)], [3, LATE], [1, 2]),
+    worked_past([(4, 2, 16), (6, 3, 24)], [6, 7], [3, 2], groups=(2,)),
+    worked_past([(10, 5, 10), (4, 2, 8)], [5, 8], [1, 5]),
+    worked_past([(10, 5, 10), (4, 2, 7)], [5, LATE], [1, 3]),
+    # Two of one priority are blocked: 19, 11 and 18, 11.
+    worked_past([(12, 4, 48), (12, 5, 48), (60, 5, 240)], [19, 18, 23], [2, 2, 1], blocked=5,
+                groups=(2, 1)),
+    # Late before open: with n = q + 1, w is 33n and 5 for each 10 ticks begun, from 66n to 66n + 5.
+    worked_past([(10, 5, 4), (64, 33, 256)], [LATE, OPEN], [1, 64]),
+    worked_past([(10, 5, 5), (64, 33, 256)], [5, OPEN], [1, 64]),
+    # The greatest numbers: 1,000,000 for every q, so that w is up to 63,999,937; 1,000,000 and
+    # 1,750,000; 507,812 up to 999,968; 507,813 up to 1,000,032, which is late at q = 63.
+    worked_past([(999999, 999999, 1000000), (1000000, 1, 1000000)], [OPEN, LATE], [64, 1],
+                blocked=1),
+    worked_past([(250000, 1000000, 1000000)], [LATE], [2]),
+    worked_past([(500000, 507812, 1000000)], [OPEN], [64]),
+    worked_past([(500000, 507813, 1000000)], [LATE], [64]),
+    worked_past([(1000000, 1000000, 1000000)], [1000000], [1]),
+    worked_past([(1000000, 1000000, 1000000)] * MOST_TASKS, [1000000] + [LATE] * 31,
+                [1] * MOST_TASKS),
+    worked_past([(1000000, 31250, 1000000)] * MOST_TASKS, [31250 * n for n in range(1, 33)],
+                [1] * MOST_TASKS),
+    # The last one has to wait for two jobs of each: 492,219, and 16 more for each q.
+    worked_past([(250000, 7813, 1000000)] * MOST_TASKS, [7813 * n for n in range(1, 32)] + [OPEN],
+                [1] * 31 + [64]),
+    worked_past([(250000, 7813, 492234)] * MOST_TASKS, [7813 * n for n in range(1, 32)] + [LATE],
+                [1] * 31 + [2]),
 ]
 
+# What the program prints, by the number of the table.
+PAST_TEXTS = {
+    0: """tasks 2
+0 response 10 deadline 20 tried 1
+1 response 15 deadline 20 tried 2
+schedulable
+""",
+    12: """tasks 1
+0 late deadline 15 tried 2
+late 0
+""",
+    19: """tasks 2
+0 open deadline 4 tried 64
+1 late deadline 100 tried 1
+open 0
+""",
+    40: """tasks 2
+0 late deadline 4 tried 1
+1 open deadline 256 tried 64
+late 0
+""",
+    41: """tasks 2
+0 response 5 deadline 5 tried 1
+1 open deadline 256 tried 64
+open 1
+""",
+}
 
-def past_period_entries(_generator):
+
+def deadline_edges():
+    """The greatest deadlines, and one tick more: each with the byte that is refused, or None."""
+    for period, deadline in ((1, 4), (2, 8), (3, 12), (10, 40), (249999, 999996),
+                             (250000, 1000000), (250001, 1000000), (333333, 1000000),
+                             (500000, 1000000), (999999, 1000000), (1000000, 1000000)):
+        yield period, deadline, None
+        yield period, deadline + 1, 14
+    for period, deadline in ((10, 0), (10, 2 ** 31), (10, GREATEST_WORD), (250001, 1000004),
+                             (1000000, 4000000)):
+        yield period, deadline, 14
+    # Four times the period, cut to 32 bits, is 4: it is the period that is refused.
+    yield 2 ** 30 + 1, 4, 6
+
+
+def past_edges():
+    """Each with the second analysis's text that it must get (None: any answer but a refusal)."""
+    for version in LAYOUTS:
+        for period, deadline, byte in deadline_edges():
+            text = None if byte is None else "refused 5 at %d\n" % byte
+            yield Draft(listed((period, 3, deadline)), version=version).data(), text
+    # The second record of 001's example: its deadline stands at byte 31, or 35 in version 2.
+    for version, byte in ((1, 31), (2, 35)):
+        for deadline, text in ((40, None), (41, "refused 5 at %d\n" % byte)):
+            draft = Draft(PAST_TABLES[0].tasks, version=version)
+            draft.change_task(1, deadline=deadline)
+            yield draft.data(), text
+            # A delay is looked at last.
+            draft.change_task(0, latest=1)
+            yield draft.data(), text or "refused 11 at 0\n"
+            draft.change_task(1, priority=3)
+            yield draft.data(), text or "refused 6 at %d\n" % (byte - 9)
+
+
+def delayed(earliest, latest):
+    """A delay, which is no fault of the table's."""
+    def spoil(draft, number):
+        draft.change_task(number, earliest=earliest, latest=latest)
+        return Asked(11, 0, (11,))
+    return spoil
+
+
+# By version: one delay, a constant one, a span.
+GIVEN_DELAYS = {1: [(0, 1), (0, GREATEST_TICKS)],
+                2: [(0, 1), (1, 1), (2, 7), (0, GREATEST_TICKS), (GREATEST_TICKS, GREATEST_TICKS)]}
+
+
+def period_below_quarter(draft, number):
+    """The period passes unless it is 0 now; it is the deadline that is out of range."""
+    period = (draft.tasks[number].deadline - 1) // PERIODS_PAST
+    draft.change_task(number, period=period)
+    return asked_by_task(draft, number, "deadline" if period else "period")
+
+
+PAST_DEADLINE_FAULTS = [
+    number_fault("deadline", lambda task: 0),
+    number_fault("deadline", lambda task: greatest_deadline(task.period, PERIODS_PAST) + 1),
+    number_fault("deadline", lambda task: max(PERIODS_PAST * task.period, GREATEST_TICKS) + 1),
+    number_fault("deadline", lambda task: GREATEST_WORD)]
+PAST_TASK_FAULTS = {
+    version: [PERIOD_FAULTS + [period_below_quarter], COST_FAULTS, PAST_DEADLINE_FAULTS, *delays,
+              PRIORITY_FAULTS]
+    for version, delays in DELAY_FAULTS.items()}
+
+
+def loads_past(task, base, loads):
+    """How many times a program that goes on from each q to the next works out one load; where they
+    are more than MOST_LOADS the counting ends there."""
+    count, window = 0, base
+    for earlier in range(MOST_TRIED):
+        wanted = demand(base + earlier * task.cost, loads, window)
+        while count <= MOST_LOADS and window < wanted <= task.deadline + earlier * task.period:
+            count, window = count + len(loads), wanted
+            wanted = demand(base + earlier * task.cost, loads, window)
+        count += len(loads)
+        if window != wanted or window <= (earlier + 1) * task.period:
+            break
+        window += task.cost
+    return count
+
+
+def furthest(tasks):
+    """With the latest deadlines."""
+    return [task._replace(deadline=greatest_deadline(task.period, PERIODS_PAST)) for task in tasks]
+
+
+def is_quick(tasks, rows):
+    """No task needs more than MOST_LOADS loads, whatever the deadlines are."""
+    return all(loads_past(task, *parts_of(place, tasks, rows)) <= MOST_LOADS
+               for place, task in enumerate(furthest(tasks)))
+
+
+def load_of(tasks):
+    return sum(fractions.Fraction(task.cost, task.period) for task in tasks)
+
+
+def filled(tasks, place, percent):
+    """With such a cost for one task that the load is this percentage, or as near below it as whole
+    ticks allow; no cost is below 1."""
+    others = load_of(tasks[:place] + tasks[place + 1:])
+    cost = (fractions.Fraction(percent, 100) - others) * tasks[place].period // 1
+    changed = tasks[place]._replace(cost=max(1, min(cost, GREATEST_TICKS)))
+    return tasks[:place] + [changed] + tasks[place + 1:]
+
+
+def past_deadline(generator, period):
+    """Mostly past the period."""
+    greatest = greatest_deadline(period, PERIODS_PAST)
+    past = generator.between(period, greatest)
+    return generator.pick([greatest, greatest, min(2 * period, greatest), past, past,
+                           generator.between(1, period)])
+
+
+def with_past_deadlines(generator, tasks):
+    return [task._replace(deadline=past_deadline(generator, task.period)) for task in tasks]
+
+
+def past_tasks(generator, count, scale):
+    """Light, overfull, and about full."""
+    tasks = without_delays(made_tasks(generator, count, scale))
+    if generator.chance(2, 3):
+        tasks = filled(tasks, generator.below(count), generator.pick([90, 95, 100, 100, 102]))
+    return with_past_deadlines(generator, tasks)
+
+
+def made_past_table(generator, count, row_count, scale, _version=1):
+    """Both versions have the same tables, since there are no delays."""
+    while True:
+        tasks = past_tasks(generator, count, scale)
+        rows = made_rows(generator, tasks, row_count)
+        if is_quick(tasks, rows):
+            return tasks, rows
+
+
+def any_past_table(generator, version=1):
+    count = generator.between(1, 6)
+    row_count = generator.pick([0, 0, generator.between(0, min(6, 3 * count))])
+    scale = generator.pick([4, 8, 15, 40, 120, 1000])
+    tasks, rows = made_past_table(generator, count, row_count, scale, version)
+    if count > 1 and generator.chance(1, 3):
+        tied = with_groups(generator, tasks)
+        return (tied if is_quick(tied, rows) else tasks), rows
+    return tasks, rows
+
+
+def some_open(_tasks, found):
+    return any(each.answer == OPEN for each in found)
+
+
+def late_after_two(_tasks, found):
+    return any(each.answer == LATE and each.tried > 2 for each in found)
+
+
+def answered_after_three(_tasks, found):
+    return any(each.answer not in WORDS and each.tried > 3 for each in found)
+
+
+def schedulable_past(tasks, found):
+    """Some answer is past the period."""
+    return (not any(each.answer in WORDS for each in found)
+            and any(each.answer > task.period for task, each in zip(tasks, found)))
+
+
+def late_and_open(_tasks, found):
+    return {each.answer for each in found} >= {LATE, OPEN}
+
+
+def outcome_entries(generator, how_many, version):
+    """So many of each of these."""
+    for fits in (some_open, late_after_two, answered_after_three, schedulable_past, late_and_open):
+        found = 0
+        while found < how_many:
+            tasks, rows = any_past_table(generator, version)
+            if fits(tasks, all_found_past(tasks, rows)):
+                found += 1
+                yield answered_entry(generator, tasks, rows, version)
+
+
+def past_deadline_entries(generator, how_many, version):
+    """Deadlines exactly at the answer, one tick below it and one above it."""
+    for _ in range(how_many):
+        tasks, rows = any_past_table(generator, version)
+        tasks = furthest(tasks)
+        for place, found in enumerate(all_found_past(tasks, rows)):
+            if found.answer not in WORDS:
+                wanted = found.answer + generator.between(-1, 1)
+                deadline = max(1, min(wanted, tasks[place].deadline))
+                tasks[place] = tasks[place]._replace(deadline=deadline)
+        yield made_entry(generator, tasks, rows, version)
+
+
+def falling_task(generator, last):
+    """A task, and for how long it has to wait: R(q) falls by a step with each q, and is at most T
+    at the last of them first."""
+    step = generator.between(1, 3)
+    period = generator.between(step * (last + 4) // 3 + step, 150)
+    waits = step * last + generator.between(1, step)
+    deadline = generator.between(waits + period - step, PERIODS_PAST * period)
+    return (period, period - step, deadline), waits
+
+
+def rising_task(generator, last):
+    """The same, but R(q) rises, and passes D at the last of them first."""
+    step = generator.between(1, 3)
+    period = generator.between(step * (last + 4) // 3 + 10, 150)
+    waits = generator.between(1, 10)
+    deadline = waits + period + step * (last + 1) - generator.between(1, step)
+    return (period, period + step, deadline), waits
+
+
+def ending_entries(generator, version):
+    """Every kind of end at these q, and beyond the last one. What the task has to wait for is a job
+    of a more urgent task, which does not come again, or a section of a less urgent one."""
+    for last, make in itertools.product((0, 1, 2, 5, 30, 62, 63, 64), (falling_task, rising_task)):
+        task, waits = make(generator, last)
+        other = (100000, waits, waits)
+        yield answered_entry(generator, listed(other, task), [], version)
+        yield answered_entry(generator, listed(task, other), blocking_rows(2, waits), version)
+
+
+def level_tasks(generator, count, level, more):
+    """The load of the tasks up to one of them is 1 and that many ticks more, which one of these has
+    whose period is a multiple of theirs."""
+    while True:
+        whole = generator.pick([12, 24, 60])
+        divisors = [number for number in range(2, whole + 1) if whole % number == 0]
+        periods = [generator.pick(divisors) for _ in range(count)]
+        place = generator.between(0, level)
+        periods[place] = whole
+        tasks = listed(*[(period, generator.between(1, 1 + period // count), period)
+                         for period in periods])
+        upper = filled(tasks[:level + 1], place, 100)
+        cost = upper[place].cost + more
+        if load_of(upper) == 1 and cost >= 1:
+            upper[place] = upper[place]._replace(cost=cost)
+            return with_past_deadlines(generator, upper + tasks[level + 1:])
+
+
+def level_entries(generator, version):
+    for count in (1, 2, 3, 5):
+        for level, more in itertools.product(range(count), (-1, 0, 1)):
+            yield answered_entry(generator, level_tasks(generator, count, level, more), [], version)
+
+
+def past_size_entries(generator):
+    """Every n from 1 to 32, in turn in both versions; then several m up to 64."""
+    for count in range(1, MOST_TASKS + 1):
+        version = 1 + count % 2
+        row_count = generator.between(0, min(8, 2 * count))
+        tasks, rows = made_past_table(generator, count, row_count, 12 * count)
+        yield answered_entry(generator, tasks, rows, version)
+    for version, row_count in itertools.product(LAYOUTS, (16, 33, 63, MOST_ROWS)):
+        tasks, rows = made_past_table(generator, 8, row_count, 200)
+        yield answered_entry(generator, tasks, rows, version)
+    for version in LAYOUTS:
+        tasks, rows = made_past_table(generator, MOST_TASKS, MOST_ROWS, 1000)
+        yield answered_entry(generator, tasks, rows, version)
+
+
+def past_limit_entries(generator, how_many, version):
+    """Numbers at both ends of their ranges, and about the period from which on 4T is too long."""
+    top, quarter = GREATEST_TICKS, GREATEST_TICKS // PERIODS_PAST
+    periods = [1, 2, quarter - 1, quarter, quarter + 1, top - 1, top]
+    while how_many:
+        count = generator.between(1, 4)
+        tasks = []
+        for priority in made_priorities(generator, count):
+            period = generator.pick(periods)
+            greatest = greatest_deadline(period, PERIODS_PAST)
+            cost = generator.pick([1, 1, 2, period, max(1, period - 1), min(period + 1, top), top])
+            deadline = generator.pick([1, period, greatest - 1, greatest, greatest, greatest + 1])
+            tasks.append(Task(priority, period, cost, deadline, 0, 0))
+        rows = made_rows(generator, tasks, generator.pick([0, generator.between(0, 3 * count)]))
+        if is_quick(tasks, rows):
+            how_many -= 1
+            yield made_entry(generator, tasks, rows, version)
+
+
+def greatest_past_tables():
+    """The largest sums, with loads before the task and behind it; and one that passes 2^32 so as to
+    look like a solution to a program whose words are too narrow: 1 + 65536 * 65537 cut to 32 bits
+    is 65537."""
+    top, others = GREATEST_TICKS, MOST_TASKS - 1
+    rows = [Row(place, semaphore, top) for place in range(MOST_TASKS - 4, MOST_TASKS)
+            for semaphore in range(1, GREATEST_SEMAPHORE + 1)]
+    for period in (1, top // PERIODS_PAST, top):
+        loads = [(period, top, greatest_deadline(period, PERIODS_PAST))] * others
+        task = (top // PERIODS_PAST, 1, top)
+        yield Draft(listed(*loads, task)).data()
+        yield Draft(in_groups(listed(*loads, task), MOST_TASKS)).data()
+        yield Draft(in_groups(listed(task, *loads), MOST_TASKS)).data()
+        yield Draft(listed(task, *loads), rows, 2).data()
+    yield Draft(listed((1, 65536, 4), (20000, 1, 80000))).data()
+    yield Draft(in_groups(listed((20000, 1, 80000), (1, 65536, 4)), 2), version=2).data()
+
+
+def slow_past_tables():
+    """Many rounds; these are the only ones above MOST_LOADS. Late at q = 0, since there is no w;
+    late at q = 15; open, where 1,024 ticks are needed in 1,000; and the same with one priority."""
+    yield Draft(listed((1, 1, 1), (250000, 1, 1000000))).data()
+    yield Draft(listed((1000, 998, 1000), (5000, 12, 20000))).data()
+    halves = [(2 ** power, 1, 2 ** power) for power in range(1, 7)]
+    yield Draft(listed(*halves, (1000, 16, 4000))).data()
+    yield Draft(in_groups(listed((1000, 16, 4000), *halves), 7), version=2).data()
+
+
+def past_faults(generator, version):
+    """Every fault of every field, in the first, a middle and the last record or row; then any field
+    of a record with any field of a row."""
+    in_records = itertools.product(itertools.chain(*PAST_TASK_FAULTS[version]), ends_of(3))
+    in_rows = itertools.product(itertools.chain(*ROW_FAULTS), ends_of(3))
+    for pair in itertools.chain(in_records, in_rows):
+        yield from spoiled_table(generator, version, 3, 3, pair, make=made_past_table)
+    for first, second in itertools.product(PAST_TASK_FAULTS[version], ROW_FAULTS):
+        faults = [(generator.pick(first), generator.below(3)), (generator.pick(second), 1)]
+        yield from spoiled_table(generator, version, 3, 2, *faults, make=made_past_table)
+
+
+def refused_delays(generator, version):
+    """Every delay in the first, a middle and the last record, alone and with a fault."""
+    fields = PAST_TASK_FAULTS[version] + ROW_FAULTS
+    for delays, number in itertools.product(GIVEN_DELAYS[version], ends_of(3)):
+        delay = (delayed(*delays), number)
+        fault = (generator.pick(generator.pick(fields)), generator.below(3))
+        yield from spoiled_table(generator, version, 3, 3, delay, make=made_past_table)
+        yield from spoiled_table(generator, version, 3, 3, delay, fault, make=made_past_table)
+
+
+def spoiled_past(generator):
+    for version in LAYOUTS:
+        yield from past_faults(generator, version)
+        yield from refused_delays(generator, version)
+    # Behind 32 records and 64 rows.
+    for version, fault in itertools.product(LAYOUTS, (delayed(0, 1), PAST_DEADLINE_FAULTS[1])):
+        yield from spoiled_table(generator, version, MOST_TASKS, MOST_ROWS,
+                                 (fault, MOST_TASKS - 1), make=made_past_table)
+
+
+def past_slice_entries():
+    """All pairs of slice lengths about n, with a delay and without."""
+    for version, latest in itertools.product(LAYOUTS, (0, 1)):
+        draft = Draft(PAST_TABLES[0].tasks, version=version)
+        draft.change_task(1, latest=latest)
+        for lengths in itertools.product((0, 1, 2, 3, LONGEST_SLICE), repeat=2):
+            yield Entry(draft.data(), *lengths)
+
+
+def past_period_entries(generator):
     yield from in_both_versions(PAST_TABLES)
+    for data, _ in past_edges():
+        yield exact_entry(data)
+    yield from past_slice_entries()
+    for version in LAYOUTS:
+        yield from small_entries(generator, 60, version, any_past_table)
+        yield from outcome_entries(generator, 8, version)
+        yield from past_deadline_entries(generator, 20, version)
+        yield from ending_entries(generator, version)
+        yield from level_entries(generator, version)
+        yield from past_limit_entries(generator, 30, version)
+    yield from past_size_entries(generator)
+    for spoiled in spoiled_past(generator):
+        yield spoiled.entry
+    changed = Draft(PAST_TABLES[0].tasks, blocking_rows(2, 2)).data()
+    for data in itertools.chain(greatest_past_tables(), slow_past_tables(),
+                                changed_byte_tables(changed)):
+        yield exact_entry(data)
 
 
 SEED = 20240101
@@ -2961,6 +3444,10 @@ def stretches(tasks, last):
         at = end
 
 
+def longest_period(tasks):
+    return max(task.period for task in tasks)
+
+
 def latest_deadline(tasks):
     return max(task.deadline for task in tasks)
 
@@ -2980,17 +3467,20 @@ def played_answers(tasks):
     return answers
 
 
-def ticks_played(tasks):
-    """How many ticks there are up to the latest deadline, or up to where all that was released
-    before is done."""
-    last = latest_deadline(tasks)
+def busy_stretches(tasks, last):
+    """Those up to the last tick, or up to where all that was released before is done."""
     oldest = [0] * len(tasks)
     for stretch in stretches(tasks, last):
+        yield stretch
         if stretch.finished:
             oldest[stretch.place] += tasks[stretch.place].period
             if all(release >= stretch.end for release in oldest):
-                return stretch.end
-    return last
+                return
+
+
+def ticks_played(tasks):
+    """How many ticks there are up to the latest deadline, or up to the end of the busy time."""
+    return max(stretch.end for stretch in busy_stretches(tasks, latest_deadline(tasks)))
 
 
 def engine_line(entry):
@@ -3019,9 +3509,9 @@ class Checks:
             print("reference: %s: found %r, wanted %r" % (what, found, wanted))
 
 
-def refusal_of(entry):
+def refusal_of(entry, read=read_table):
     try:
-        read_table(*entry)
+        read(*entry)
     except Refused as refusal:
         return refusal.number, refusal.place
     return None
@@ -3040,6 +3530,14 @@ def check_printed(checks, table, name):
     if table.blocking:
         blocking = [blocking_of(task, table.tasks, table.rows) for task in table.tasks]
         checks.same(blocking, table.blocking, name + " blocking")
+
+
+def check_edges(checks, text, edges, what):
+    for number, (data, wanted) in enumerate(edges):
+        found = text(data)
+        if wanted is None:
+            found = None if found.startswith("tasks ") else found
+        checks.same(found, wanted, "%s %d" % (what, number))
 
 
 def check_documents(checks):
@@ -3076,26 +3574,26 @@ def check_documents(checks):
         checks.same(responses[-1], 0, "wrapping table %d" % number)
     edges = itertools.chain(edge_tables(), place_edges(), delay_edges(), version_edges(),
                             group_edges())
-    for number, (data, wanted) in enumerate(edges):
-        text = text_of(data)
-        if wanted is None:
-            text = None if text.startswith("tasks ") else text
-        checks.same(text, wanted, "edge %d" % number)
+    check_edges(checks, text_of, edges, "edge")
 
 
-def check_past_tables(checks):
+def check_past_documents(checks):
     for number, table in enumerate(PAST_TABLES):
         wanted = list(map(Found, table.answers, table.tried))
         checks.same(all_found_past(table.tasks, table.rows), wanted,
                     "table %d past the period" % number)
+    for number, text in PAST_TEXTS.items():
+        data = Draft(PAST_TABLES[number].tasks, PAST_TABLES[number].rows).data()
+        checks.same(past_text_of(data), text, "text of table %d past the period" % number)
+    check_edges(checks, past_text_of, past_edges(), "edge past the period")
 
 
 def check_faults(checks):
     """Each fault gives its own refusal; of two of different stages the earlier is given. (Two in
     one stage, or two in the header, may undo each other.)"""
-    def check_first(spoiled, what):
+    def check_first(spoiled, what, read=read_table):
         wanted = first_asked(spoiled.refusals)[:2] if spoiled.refusals else None
-        checks.same(refusal_of(spoiled.entry), wanted, what)
+        checks.same(refusal_of(spoiled.entry, read), wanted, what)
 
     def check_two(spoiled, what):
         first, second = sorted(asked.turn[0] for asked in spoiled.refusals)
@@ -3127,6 +3625,8 @@ def check_faults(checks):
     for version in LAYOUTS:
         for spoiled in two_faults(generator, 300, version, made_tied_table):
             check_two(spoiled, "two faults with groups")
+    for spoiled in spoiled_past(Generator(SEED + 11)):
+        check_first(with_short_slices(spoiled), "past the period", read_past)
 
 
 def check_searches(checks, tasks, rows):
@@ -3172,10 +3672,8 @@ def check_starts(checks, tasks, rows):
     return reached
 
 
-def check_random_runs(checks, generator, tasks):
-    responses = responses_of(tasks, [])
-    ticks = 4 * max(task.period for task in tasks) + 20
-    for _ in range(12):
+def check_random_runs(checks, generator, tasks, responses, ticks, how_many):
+    for _ in range(how_many):
         jobs = random_run(generator, tasks, ticks)
         checks.same(job_exceeding(tasks, responses, jobs, ticks), None, "run of %r" % (tasks,))
 
@@ -3210,7 +3708,8 @@ def check_runs(checks):
         tasks = without_delays(made_tasks(generator, count, generator.pick([4, 8, 15, 30])))
         if count > 1 and generator.chance(1, 2):
             tasks = with_groups(generator, tasks)
-        check_random_runs(checks, generator, tasks)
+        ticks = 4 * longest_period(tasks) + 20
+        check_random_runs(checks, generator, tasks, responses_of(tasks, []), ticks, 12)
         check_run_together(checks, tasks)
 
 
@@ -3276,10 +3775,10 @@ def as_version_2(data):
 
 
 def moved_place(refusal, task_count):
-    """Where the place of a version 1 table's refusal 5, 6, 7 or 8 comes to stand in that."""
+    """Where the place of a version 1 table's refusal from 5 on comes to stand in that."""
     number, place = refusal
     record, at = divmod(place - 5, 17)
-    if number == 8:
+    if number > 7:
         return refusal
     if record >= task_count:
         return number, place + 4 * task_count
@@ -3294,6 +3793,8 @@ def check_both_versions(checks, entries):
             continue
         second = entry._replace(table=as_version_2(entry.table))
         what = "entry %d in version 2" % number
+        past = refusal_of(entry, read_past)
+        checks.same(refusal_of(second, read_past), past and moved_place(past, entry.table[3]), what)
         if refusal:
             checks.same(refusal_of(second), moved_place(refusal, entry.table[3]), what)
             continue
@@ -3302,6 +3803,147 @@ def check_both_versions(checks, entries):
         if latest_deadline(tasks) <= LONGEST_PLAIN_DEADLINE:
             checks.same(text_of(*second), text_of(*entry), what)
             checks.same(engine_line(second), engine_line(entry), what)
+
+
+def check_beside_first(checks, entry, what):
+    """The refusals of both analyses, and where neither refuses what they find."""
+    first, second = refusal_of(entry), refusal_of(entry, read_past)
+    if first is None:
+        tasks, rows = read_table(*entry)
+        checks.same(second, (11, 0) if any(task.latest for task in tasks) else None, what)
+        if second is None:
+            # "Where all D <= T, show that its answers equal the first analysis's."
+            wanted = [Found(response, 1) for response in responses_of(tasks, rows)]
+            checks.same(all_found_past(tasks, rows), wanted, what)
+    elif first != second and (second is None or second[0] > 7):
+        # "The first analysis still refuses D above T with 5."
+        tasks, _ = read_bytes(entry.table, PERIODS_PAST)
+        layout = LAYOUTS[entry.table[0]]
+        bytes_past = [task_byte(layout, place, "deadline") for place, task in enumerate(tasks)
+                      if task.deadline > task.period]
+        checks.same(first, (5, bytes_past[0]), what)
+
+
+# The most numbers that the plain search tries for a task.
+MOST_PLAIN_NUMBERS = 50000
+
+
+def check_past_searches(checks, tasks, rows, found):
+    """The plain search and the skipping one, for every q that is tried."""
+    for place, (task, (_, tried)) in enumerate(zip(tasks, found)):
+        if tried * (task.deadline + tried * task.period) <= MOST_PLAIN_NUMBERS:
+            parts = parts_of(place, tasks, rows)
+            for earlier in range(tried):
+                checks.same(response_behind(earlier, task, *parts),
+                            response_behind(earlier, task, *parts, plain_search),
+                            "search for q = %d of task %d of %r" % (earlier, place, tasks))
+
+
+UNFINISHED = float("inf")
+
+
+def busy_jobs(tasks, last):
+    """How long each job of the last of these takes in the run released together, of those released
+    in the busy time that it begins with, or up to a last tick."""
+    taken, end = [], 0
+    for stretch in busy_stretches(tasks, last):
+        end = stretch.end
+        if stretch.finished and stretch.place == len(tasks) - 1:
+            taken.append(stretch.end - stretch.release)
+    return taken + [UNFINISHED] * (rounded_up(end, tasks[-1].period) - len(taken))
+
+
+def ticked_jobs(tasks, last):
+    """The same of all its jobs up to the last tick, played tick by tick."""
+    jobs = together(tasks, last)
+    return [UNFINISHED if end is None else end - job.release
+            for job, end in zip(jobs, play(tasks, jobs, last)) if job.task == len(tasks) - 1]
+
+
+def check_busy_time(checks, task, found, taken, what):
+    """The jobs of a task in the busy time of its level, in the run released together, are those for
+    which R(q) is found."""
+    if found.answer == LATE:
+        late = [ticks > task.deadline for ticks in taken]
+        checks.same(late[:found.tried], [False] * (found.tried - 1) + [True], what)
+    elif found.answer == OPEN:
+        within = [task.period < ticks <= task.deadline for ticks in taken[:MOST_TRIED]]
+        checks.same(within, [True] * MOST_TRIED, what)
+    else:
+        checks.same((max(taken), len(taken)), found, what)
+
+
+# The last tick that is played, and the last one that is also played tick by tick.
+LAST_PLAYED = 20000
+LAST_TICKED = 1000
+
+
+def check_busy_times(checks, tasks, found):
+    """Where no task shares a priority and there are no rows. Gives for each task that is played
+    how it ends, whether at q = 0, and whether the load up to it is below 1 (-1), at it or above."""
+    for place, (task, each) in enumerate(zip(tasks, found)):
+        upper = tasks[:place + 1]
+        # R(63) is within this, as is the end of the busy time if that ends at q = 63.
+        last = (MOST_TRIED - 1) * task.period + max(task.period, task.deadline)
+        if last <= LAST_PLAYED:
+            what = "busy time of task %d of %r" % (place, tasks)
+            taken = busy_jobs(upper, last)
+            check_busy_time(checks, task, each, taken, what)
+            if last <= LAST_TICKED:
+                checks.same(ticked_jobs(upper, last)[:len(taken)], taken, what)
+            load = load_of(upper)
+            yield WORDS.get(each.answer, "response"), each.tried == 1, (load > 1) - (load < 1)
+
+
+def check_past_runs(checks):
+    """Random runs, also of tasks that share a priority; an open task's answer says nothing."""
+    generator = Generator(SEED + 13)
+    for _ in range(200):
+        count, scale = generator.between(1, 5), generator.pick([4, 8, 15, 30])
+        tasks = past_tasks(generator, count, scale)
+        if count > 1 and generator.chance(1, 2):
+            tasks = with_groups(generator, tasks)
+        answers = [each.answer for each in all_found_past(tasks, [])]
+        ticks = 10 * longest_period(tasks) + 20
+        check_random_runs(checks, generator, tasks, answers, ticks, 4)
+
+
+def played_past(generator, entries):
+    """The tasks of those of these entries that can be played, and made ones."""
+    for entry in entries:
+        if refusal_of(entry, read_past) is None:
+            tasks, rows = read_past(*entry)
+            if not rows and not has_ties(tasks):
+                yield tasks
+    for _ in range(150):
+        count, scale = generator.between(1, 5), generator.pick([4, 8, 15, 40])
+        yield past_tasks(generator, count, scale)
+        yield level_tasks(generator, count, generator.below(count), generator.below(3) - 1)
+
+
+def check_all_busy_times(checks, entries):
+    """Gives how many tasks are played."""
+    ends = collections.Counter()
+    for tasks in played_past(Generator(SEED + 12), entries):
+        ends.update(check_busy_times(checks, tasks, all_found_past(tasks, [])))
+    # Whatever can be turns up. A task with a load above 1 is never answered.
+    loads = (-1, 0, 1)
+    wanted = set(itertools.product(["response", "late"], [True, False], loads))
+    wanted -= set(itertools.product(["response"], [True, False], [1]))
+    wanted |= set(itertools.product(["open"], [False], loads))
+    checks.same(set(ends), wanted, "ends of busy times")
+    return sum(ends.values())
+
+
+def check_past(checks, entries):
+    for number, entry in enumerate(entries):
+        what = "entry %d in the second analysis" % number
+        check_beside_first(checks, entry, what)
+        if refusal_of(entry, read_past) is None and refusal_of(entry):
+            tasks, rows = read_past(*entry)
+            check_past_searches(checks, tasks, rows, all_found_past(tasks, rows))
+    check_past_runs(checks)
+    return check_all_busy_times(checks, past_period_entries(Generator(SEED + 11)))
 
 
 def check_event_playing(checks):
@@ -3570,7 +4212,7 @@ def tasks_of_pairs(pairs, sizes):
 
 def piles_up(tasks):
     """More work than ticks: jobs can queue without end."""
-    return sum(fractions.Fraction(task.cost, task.period) for task in tasks) > 1
+    return load_of(tasks) > 1
 
 
 def tables_of_pairs(pairs, shapes):
@@ -3894,7 +4536,7 @@ def command_check(_arguments):
     checks = Checks()
     entries = list(all_entries())
     check_documents(checks)
-    check_past_tables(checks)
+    check_past_documents(checks)
     check_faults(checks)
     check_entries(checks, entries)
     check_both_versions(checks, entries)
@@ -3903,12 +4545,14 @@ def command_check(_arguments):
     check_event_playing(checks)
     check_engine_edges(checks)
     taken = check_engine(checks, entries)
+    played = check_past(checks, entries)
     claimed = list(all_claims())
     passing = check_claims(checks, claimed)
     if checks.failed:
         sys.exit("reference: %d of %d checks failed" % (checks.failed, checks.done))
-    print("reference: %d checks; the engine takes %d of %d tables; %d of %d lists of claims pass"
-          % (checks.done, taken, len(entries), passing, len(claimed)))
+    print("reference: %d checks; the engine takes %d of %d tables; the busy times of %d tasks are "
+          "played; %d of %d lists of claims pass"
+          % (checks.done, taken, len(entries), played, passing, len(claimed)))
 
 
 def command_runs(_arguments):
