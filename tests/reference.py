@@ -381,8 +381,8 @@ Found = collections.namedtuple("Found", "answer tried")
 
 def response_behind(earlier, task, base, loads, search=skipping_search):
     # "find the smallest w equal to B + (1 + q)C plus interference, and R(q) = w - qT"; q is the
-    # number of earlier jobs of the task, and the base is C + B. None where R(q) "exceeds D or has no
-    # w": there is none up to D + qT.
+    # number of earlier jobs of the task, and the base is C + B. None where R(q) "exceeds D or has
+    # no w": there is none up to D + qT.
     passed = earlier * task.period
     window = search(base + earlier * task.cost, loads, task.deadline + passed)
     return None if window is None else window - passed
@@ -2539,8 +2539,8 @@ def blocking_rows(count, section):
 
 
 def worked_past(tasks, answers, tried, blocked=0, groups=None):
-    """All tasks but the last are blocked for so many ticks. Groups are the sizes of those that share
-    a priority."""
+    """All tasks but the last are blocked for so many ticks. Groups are the sizes of those that
+    share a priority."""
     tasks = listed(*tasks)
     if groups:
         tasks = in_groups(tasks, *groups)
@@ -2903,6 +2903,34 @@ def level_entries(generator, version):
             yield answered_entry(generator, level_tasks(generator, count, level, more), [], version)
 
 
+# The lengths of audio buffers, in samples. 11,520 is a multiple of each, so that a load of exactly
+# 1 comes to its end there; and with 1, 8 or 32 tasks such a load has whole costs.
+BUFFERS = (960, 1152, 1280, 1440, 1920, 2304, 2880, 3840)
+
+
+def buffer_tasks(count, percent):
+    """Tasks that fill such buffers in turn, each with the same share of the load; the last one
+    makes that as near to the percentage as whole ticks allow. There are two buffers for a task of
+    the most urgent third, then three, then four."""
+    tasks = listed(*[(period, period * percent // (100 * count), (2 + 3 * place // count) * period)
+                     for place, period in zip(range(count), itertools.cycle(BUFFERS))])
+    return filled(tasks, count - 1, percent)
+
+
+def buffer_entries(generator):
+    """In turn plain, with rows and in groups."""
+    kinds = itertools.cycle(itertools.product(("plain", "rows", "groups"), LAYOUTS))
+    for count, percent in itertools.product((2, 4, 8, 16, 24, 31, MOST_TASKS),
+                                            (85, 90, 95, 98, 100, 101)):
+        kind, version = next(kinds)
+        tasks = buffer_tasks(count, percent)
+        if kind == "groups":
+            tasks = with_groups(generator, tasks)
+        rows = loaded_rows(tasks, min(MOST_ROWS, 2 * count)) if kind == "rows" else []
+        if is_quick(tasks, rows):
+            yield answered_entry(generator, tasks, rows, version)
+
+
 def past_size_entries(generator):
     """Every n from 1 to 32, in turn in both versions; then several m up to 64."""
     for count in range(1, MOST_TASKS + 1):
@@ -3018,6 +3046,7 @@ def past_period_entries(generator):
         yield from ending_entries(generator, version)
         yield from level_entries(generator, version)
         yield from past_limit_entries(generator, 30, version)
+    yield from buffer_entries(generator)
     yield from past_size_entries(generator)
     for spoiled in spoiled_past(generator):
         yield spoiled.entry
@@ -3935,6 +3964,18 @@ def check_all_busy_times(checks, entries):
     return sum(ends.values())
 
 
+def check_past_classes(checks):
+    """What is measured is what it is called."""
+    wanted = {"32-open": "open 31", "32-late": "late 31", "refusal-11": "refused 11 at 0"}
+    for measured in past_classes():
+        if not measured.name.startswith("slowest"):
+            lines = past_text_of(measured.data).splitlines()
+            checks.same(lines[-1], wanted.get(measured.name, "schedulable"), measured.title)
+        if "-buffers-" in measured.name:
+            tasks, rows = read_past(measured.data, MOST_TASKS, MOST_TASKS)
+            checks.same(schedulable_past(tasks, all_found_past(tasks, rows)), True, measured.title)
+
+
 def check_past(checks, entries):
     for number, entry in enumerate(entries):
         what = "entry %d in the second analysis" % number
@@ -3942,6 +3983,7 @@ def check_past(checks, entries):
         if refusal_of(entry, read_past) is None and refusal_of(entry):
             tasks, rows = read_past(*entry)
             check_past_searches(checks, tasks, rows, all_found_past(tasks, rows))
+    check_past_classes(checks)
     check_past_runs(checks)
     return check_all_busy_times(checks, past_period_entries(Generator(SEED + 11)))
 
@@ -4449,6 +4491,64 @@ def measured_classes():
     yield from group_classes()
 
 
+def lasting_tasks(periods, doubled):
+    """Tasks of cost 1 with these periods, but one of cost 2, and the latest deadlines."""
+    return furthest(listed(*[(period, 2 if place == doubled else 1, period)
+                             for place, period in enumerate(periods)]))
+
+
+def slowest_past_table():
+    """The greatest cost that a search over periods, costs and their order found for a program that
+    keeps marks from each q to the next: 5,260,599 rounds, which come by 148,746,360 loads. The load
+    can be about 1, so that many q are tried, for one of these tasks only."""
+    return Draft(lasting_tasks((234, 11, 2, 3, 14, 486522, 491383, 486519, 486519, 486517, 491382,
+                                501107, 491354, 486524, 486520, 491383, 486491, 486485, 491382,
+                                486516, 491385, 486524, 491381, 486516, 486518, 481650, 486521,
+                                491383, 491381, 486519, 486513, 486516), 30)).data()
+
+
+def slowest_past_group_table():
+    """The same, where all tasks share one priority, so that the load is about 1 for all of them: 27
+    are open, after 98,469,650 rounds, which come by 3,052,505,520 loads."""
+    tasks = lasting_tasks([504503] * 27 + [234, 11, 14, 3, 2], 0)
+    return Draft(in_groups(tasks, MOST_TASKS)).data()
+
+
+def buffer_classes():
+    yield Measured("1-buffer", 100, 200, "1 task with buffers, load 0.90",
+                   Draft(buffer_tasks(1, 90)).data())
+    for count, percent in itertools.product((8, MOST_TASKS), (90, 95, 100)):
+        name = "%d-buffers-%d" % (count, percent)
+        title = "%d tasks with buffers, load %.2f" % (count, percent / 100)
+        yield Measured(name, 100, 200, title, Draft(buffer_tasks(count, percent)).data())
+    tasks = buffer_tasks(MOST_TASKS, 95)
+    yield Measured("32-buffers-95-rows", 100, 200, "32 tasks with buffers, load 0.95, 64 rows",
+                   Draft(tasks, loaded_rows(tasks, MOST_ROWS)).data())
+
+
+def past_classes():
+    """The tables on which the second analysis is measured. Those of buffers are schedulable, and
+    but for that of one task they have answers past the period."""
+    last = MOST_TASKS - 1
+    example = PAST_TABLES[0]
+    yield Measured("example", 100, 200, "2 tasks, the example of 001",
+                   Draft(example.tasks, example.rows).data())
+    yield from buffer_classes()
+    # A tick more than there is.
+    draft = Draft(buffer_tasks(MOST_TASKS, 100))
+    draft.change_task(last, cost=draft.tasks[last].cost + 1)
+    yield Measured("32-open", 100, 200, "32 tasks, the last one open", draft.data())
+    yield Measured("32-late", 100, 200, "32 tasks, the last one late at q = 4",
+                   Draft(buffer_tasks(MOST_TASKS, 101)).data())
+    draft = Draft(buffer_tasks(MOST_TASKS, 95))
+    draft.change_task(last, latest=1)
+    yield Measured("refusal-11", 100, 200, "refusal 11, a delay in the last of 32 tasks",
+                   draft.data())
+    yield Measured("slowest", 1, 2, "32 tasks, the slowest table found", slowest_past_table())
+    yield Measured("slowest-one-priority", 0, 1,
+                   "32 tasks of one priority, the slowest table found", slowest_past_group_table())
+
+
 Playable = collections.namedtuple("Playable", "name title data")
 
 # 1,000,000 ticks less one, and a single tick, with a release in the first alone: their difference
@@ -4569,11 +4669,19 @@ def command_runs(_arguments):
           % (len(counts), sum(met for met, _ in counts), runs, sum(alone for _, alone in counts)))
 
 
-def command_classes(arguments):
-    os.makedirs(arguments.folder, exist_ok=True)
-    for measured in measured_classes():
-        write_file(arguments.folder, measured.name + ".table", measured.data)
+def write_classes(folder, classes):
+    os.makedirs(folder, exist_ok=True)
+    for measured in classes:
+        write_file(folder, measured.name + ".table", measured.data)
         print("%s %d %d %s" % measured[:4])
+
+
+def command_classes(arguments):
+    write_classes(arguments.folder, measured_classes())
+
+
+def command_past(arguments):
+    write_classes(arguments.folder, past_classes())
 
 
 def command_plays(arguments):
@@ -4619,6 +4727,10 @@ for each a line with its name, two numbers of repeats whose difference is to be 
 title.
 """
 
+PAST_HELP = """writes one table for each class on which the second analysis is measured,
+FOLDER/NAME.table, and prints for each a line as "classes" does.
+"""
+
 PLAYS_HELP = """writes one table for each class on which the engine is measured, FOLDER/NAME.table,
 and prints for each a line with its name, the number of ticks that are played, and a title.
 """
@@ -4647,6 +4759,11 @@ def parse_arguments():
                                   description=CLASSES_HELP, formatter_class=raw)
     classes.add_argument("folder", metavar="FOLDER")
     classes.set_defaults(run=command_classes)
+
+    past = commands.add_parser("past", help="write the tables on which the second analysis is "
+                               "measured", description=PAST_HELP, formatter_class=raw)
+    past.add_argument("folder", metavar="FOLDER")
+    past.set_defaults(run=command_past)
 
     runs = commands.add_parser("runs", help="play every run of small tables with ties")
     runs.set_defaults(run=command_runs)
