@@ -2580,8 +2580,8 @@ PAST_TABLES = [
     # 127, 126 and so on: 64 at q = 63, where it ends; with one tick more 65 there, and open.
     worked_past([(64, 63, 256), (5000, 64, 5000)], [127, 4096], [64, 1], blocked=64),
     worked_past([(64, 63, 256), (5000, 65, 5000)], [OPEN, 4160], [64, 1], blocked=65),
-    # The same where a more urgent task takes the ticks: the load is 1, and the second jobs of both
-    # come together at 4,096 and 4,160 first.
+    # The same where a more urgent task takes the ticks: the load is 1, and jobs of both are
+    # released together again at 4,096, and at 4,160, which is later than q = 63 comes.
     worked_past([(4096, 64, 4096), (64, 63, 256)], [64, 127], [1, 64]),
     worked_past([(4160, 65, 4160), (64, 63, 256)], [65, OPEN], [1, 64]),
     # 40, which is 4T, 39 and so on: 10 at q = 30. A tick less is late at once.
@@ -2629,6 +2629,9 @@ PAST_TABLES = [
                 [1] * 31 + [64]),
     worked_past([(250000, 7813, 492234)] * MOST_TASKS, [7813 * n for n in range(1, 32)] + [LATE],
                 [1] * 31 + [2]),
+    # With one priority for all each of them is open: 63,000, and one tick more for each q.
+    worked_past([(31999, 1000, 127996)] * MOST_TASKS, [OPEN] * MOST_TASKS, [64] * MOST_TASKS,
+                groups=(MOST_TASKS,)),
 ]
 
 # What the program prints, by the number of the table.
@@ -4499,8 +4502,8 @@ def lasting_tasks(periods, doubled):
 
 def slowest_past_table():
     """The greatest cost that a search over periods, costs and their order found for a program that
-    keeps marks from each q to the next: 5,260,599 rounds, which come by 148,746,360 loads. The load
-    can be about 1, so that many q are tried, for one of these tasks only."""
+    keeps marks from each q to the next: some 5.3 million rounds, which come by 149 million loads.
+    The load can be so near 1 that many q are tried for one of these tasks only."""
     return Draft(lasting_tasks((234, 11, 2, 3, 14, 486522, 491383, 486519, 486519, 486517, 491382,
                                 501107, 491354, 486524, 486520, 491383, 486491, 486485, 491382,
                                 486516, 491385, 486524, 491381, 486516, 486518, 481650, 486521,
@@ -4508,8 +4511,8 @@ def slowest_past_table():
 
 
 def slowest_past_group_table():
-    """The same, where all tasks share one priority, so that the load is about 1 for all of them: 27
-    are open, after 98,469,650 rounds, which come by 3,052,505,520 loads."""
+    """The same, where all tasks share one priority, so that the load is that near 1 for all of
+    them: 27 are open, after some 98 million rounds, which come by 3,053 million loads."""
     tasks = lasting_tasks([504503] * 27 + [234, 11, 14, 3, 2], 0)
     return Draft(in_groups(tasks, MOST_TASKS)).data()
 
