@@ -12,7 +12,7 @@ use Rattle.claims.specs.Claims.{claimedOf}
 use Rattle.claims.specs.Numbers.{claimedPlace}
 use Rattle.claims.proofs.Claims.{claimed-place}
 use Rattle.printing.specs.Text.{bytesOf, decimalOf}
-use Rattle.printing.proofs.LengthLaws.{few-digits, line-long}
+use Rattle.printing.proofs.LengthLaws.{few-digits, line-long, place-line-long, refusal-long}
 use Rattle.printing.proofs.LongestLaws.{refused-long, whole}
 use Rattle.scanning.specs.Reading.{Reading, numbers, unreadable, readingOf}
 use Rattle.scanning.proofs.FaultLaws.{unreadableMeans}
@@ -26,9 +26,9 @@ use Rattle.checking.specs.Longest.{longest, LineFits, LineWhole}
 
 claimed-long : (claimed : Claimed) → claimedPlace claimed < 65536 → length (claimedLine claimed) ≤ longest
 claimed-long (Refused refusal) h = omega (arith, refused-long refusal h)
-claimed-long WrongCount h = omega arith
+claimed-long WrongCount h = omega (arith, refusal-long 10 0 2 (few-digits 10 2 (omega arith) (omega arith)) h)
 claimed-long Pass h = omega arith
-claimed-long (Fails place) h = omega (arith, line-long (bytesOf "fails ") (place .0), few-digits (place .0) 5 (omega arith) (omega arith))
+claimed-long (Fails place) h = omega (arith, place-line-long (bytesOf "fails ") (place .0) h)
 
 unreadable-long : (place : ℕ) → place < 18446744073709551616 → length (unreadableLine place) ≤ longest
 unreadable-long place h = omega (arith, line-long (bytesOf "unreadable at ") place, few-digits place 20 (omega arith) (omega (arith, h)))

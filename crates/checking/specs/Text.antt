@@ -5,13 +5,13 @@ use mathlib.Core.List.{List}
 use Rattle.claims.specs.declared.Claimed.{Claimed}
 use Rattle.claims.specs.declared.Claimed.the-variants.{Refused, WrongCount, Pass, Fails}
 use Rattle.claims.specs.Claims.{claimedOf}
-use Rattle.printing.specs.Text.{bytesOf, lineWithNumber, refusedLine}
+use Rattle.printing.specs.Text.{bytesOf, lineWithNumber, refusalLine, refusedLine}
 use Rattle.scanning.specs.Reading.{Reading, numbers, unreadable, readingOf}
 
 -- "pass, or the first place that fails", or the refusal, as for the analysis; "refused with 10, place 0" for a list of a wrong length
 abbrev pub claimedLine : Claimed → List ℕ
 claimedLine (Refused refusal) = refusedLine refusal
-claimedLine WrongCount = bytesOf "refused 10 at 0\n"
+claimedLine WrongCount = refusalLine 10 0
 claimedLine Pass = bytesOf "pass\n"
 claimedLine (Fails place) = lineWithNumber (bytesOf "fails ") (place .0)
 

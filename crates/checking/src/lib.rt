@@ -10,6 +10,7 @@ use claims::Claimed;
 use claims::check_claims;
 use printing::append;
 use printing::line_with_number;
+use printing::refusal_line;
 use printing::verdict_line;
 use response::Verdict;
 use scanning::Scan;
@@ -54,7 +55,7 @@ pub fn claimed_line(out: &mut [u8], at: usize, claimed: Claimed) -> usize
 {
     match claimed {
         Claimed::Refused(refusal) => verdict_line(out, at, Verdict::Refused(refusal)),
-        Claimed::WrongCount => append(out, at, b"refused 10 at 0\n"),
+        Claimed::WrongCount => refusal_line(out, at, 10, 0),
         Claimed::Pass => append(out, at, b"pass\n"),
         Claimed::Fails(place) => line_with_number(out, at, b"fails ", place.0 as u64),
     }

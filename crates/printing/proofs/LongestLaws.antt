@@ -1,12 +1,13 @@
--- The longest text: what the analysis leaves is small enough for the lines, and a verdict's line is short.
+-- The longest text, with any word in front of the lines' last number; and that of the first analysis: what it leaves is small enough for
+-- the lines, and a verdict's line is short.
 -- Assumes nothing.
-use Prim.Native.Nat.{ℕ, _+_, _≤_, _<_}
+use Prim.Native.Nat.{ℕ, _+_, _*_, _≤_, _<_}
 use native.Mathlib.Omega.{arith}
 use native.Mathlib.Decide.{decLe}
-use native.Mathlib.Nat.{sub-zero}
+use native.Mathlib.Nat.{sub-zero, mul-le-mul}
 use mathlib.Core.Path.{_≡_, refl, sym, _∙_, ap}
 use mathlib.Core.Logic.{inl, inr}
-use mathlib.Core.List.{List}
+use mathlib.Core.List.{List, _++_}
 use lib.ListN.{length, getD, take, length-append, length-take}
 use lib.Seq.{take-all}
 use Rattle.model.specs.Lists.{tabulate, total, wordOf, sumOf}
@@ -19,7 +20,7 @@ use Rattle.tables.specs.declared.Refusal.the-variants.{TooShort, UnknownVersion
 use Rattle.tables.specs.Fields.{taskCountField, costField, deadlineField}
 use Rattle.tables.specs.Layout.{layoutFor, layoutOf, taskCount, recordStart, deadlineAt, deadlineIn, tasksOf, tableOf}
 use Rattle.tables.specs.Refusals.{numberOf, placeOf}
-use Rattle.tables.specs.Meaning.{TableRight}
+use Rattle.tables.specs.Meaning.{TableRightSpanning, TableRight}
 use Rattle.tables.proofs.LayoutLaws.{layout-sound, task-is}
 use Rattle.encoding.specs.Bytes.{joined}
 use Rattle.equation.specs.declared.Start.{Start}
@@ -35,11 +36,11 @@ use Rattle.response.specs.Statements.{Accepted, Written}
 use Rattle.response.proofs.Demands.{demand1, demand2}
 use Rattle.response.proofs.PlaceLaws.{verdict-place}
 use Rattle.printing.specs.Appended.{Appended}
-use Rattle.printing.specs.Text.{bytesOf, textOf, decimalOf, withNumber, lineWithNumber, refusedLine, deadlineShown, taskLines, tasksText}
+use Rattle.printing.specs.Text.{bytesOf, textOf, decimalOf, lineWithNumber, refusedLine, deadlineShown, taskLines, tasksText}
 use Rattle.printing.specs.Answered.{zeros, answerText}
 use Rattle.printing.specs.Longest.{longest, TextFits, LongestReached, Whole, TextWhole}
 use Rattle.printing.proofs.AppendLaws.{text-is, behind, part-length}
-use Rattle.printing.proofs.LengthLaws.{digitCount, few-digits, number-long, line-long, Small, lines-long}
+use Rattle.printing.proofs.LengthLaws.{digitCount, few-digits, seven-digits, line-long, place-line-long, refusal-long, Small, lineRoom, lines-long}
 
 -- a refusal's line
 number-small : (refusal : Refusal) → numberOf refusal ≤ 9
@@ -55,32 +56,8 @@ number-small NotPlayable = omega arith
 
 pub refused-long : (refusal : Refusal) → placeOf refusal < 65536 → length (refusedLine refusal) ≤ 19
 refused-long refusal h =
-    omega (
-      arith,
-      length-append (withNumber (bytesOf "refused ") (numberOf refusal)) (lineWithNumber (bytesOf " at ") (placeOf refusal)),
-      number-long (bytesOf "refused ") (numberOf refusal),
-      line-long (bytesOf " at ") (placeOf refusal),
-      few-digits (numberOf refusal) 1 (omega arith) (omega (arith, number-small refusal)),
-      few-digits (placeOf refusal) 5 (omega arith) (omega arith),
-    )
-
--- the lines of a table of at most 32 tasks
-tasks-long : (bytes answers rounds : List ℕ) → taskCount bytes ≤ 32 →
-    ((i : ℕ) → i < taskCount bytes → Small (getD answers i 0) (deadlineShown bytes i) (getD rounds i 0)) →
-    length (tasksText bytes answers rounds) ≤ 1663
-unfolding total decimalOf firstFrom
-tasks-long bytes answers rounds few small =
-    let n = taskCount bytes in
-    let places : total digitCount 32 ≡ 54 = refl in
-    omega (
-      arith,
-      places,
-      total-longer digitCount n 32 few,
-      length-append (lineWithNumber (bytesOf "tasks ") n) (taskLines bytes answers rounds n),
-      line-long (bytesOf "tasks ") n,
-      few-digits n 2 (omega arith) (omega arith),
-      lines-long bytes answers rounds n small,
-    )
+    refusal-long (numberOf refusal) (placeOf refusal) 1
+    (few-digits (numberOf refusal) 1 (omega arith) (omega (arith, number-small refusal))) h
 
 deadline-shown : (bytes : List ℕ) (i : ℕ) → deadlineShown bytes i ≤ deadlineIn bytes i
 deadline-shown bytes i =
@@ -88,6 +65,39 @@ deadline-shown bytes i =
       | inl p ↦ rw (p .0) (omega arith)
       | inr p ↦ rw (p .0) (omega arith)
     ]
+
+-- the lines `tasks 32` and, as the longest last one, `schedulable`; 32 tasks' lines; and the 54 digits of the places 0 to 31
+abbrev pub textRoom : List ℕ → ℕ → ℕ
+textRoom word width = 9 + 12 + 32 * lineRoom word width + 54
+
+-- a text of a table within the rules, however many periods a deadline may span: the lines of its tasks, and a last line
+module _ (span : ℕ) (bytes : List ℕ) (right : TableRightSpanning span bytes) where
+  few-tasks : taskCount bytes ≤ 32
+  few-tasks =
+      omega (arith, right .head .counts taskCountField .high, layout-sound bytes (right .head .version) .few)
+
+  pub deadline-small : (i : ℕ) → i < taskCount bytes → deadlineIn bytes i ≤ 1000000
+  deadline-small i h = omega (arith, right .records i h deadlineField .high)
+
+  pub text-long : (word answers counts last : List ℕ) (width : ℕ) →
+      ((i : ℕ) → i < taskCount bytes → Small width (getD answers i 0) (getD counts i 0)) → length last ≤ 12 →
+      length (tasksText word bytes answers counts ++ last) ≤ textRoom word width
+  unfolding total decimalOf firstFrom
+  text-long word answers counts last width small short =
+      let n = taskCount bytes in
+      let places : total digitCount 32 ≡ 54 = refl in
+      omega (
+        arith,
+        places,
+        total-longer digitCount n 32 few-tasks,
+        length-append (tasksText word bytes answers counts) last,
+        length-append (lineWithNumber (bytesOf "tasks ") n) (taskLines word bytes answers counts n),
+        line-long (bytesOf "tasks ") n,
+        few-digits n 2 (omega arith) (omega (arith, few-tasks)),
+        lines-long word bytes answers counts width n small
+            (λ i h. omega (arith, deadline-shown bytes i, deadline-small i h)),
+        mul-le-mul {n₁ = n} {m₁ = lineRoom word width} {n₂ = 32} {m₂ = lineRoom word width} few-tasks (omega arith),
+      )
 
 -- no start is below the task's own cost
 start-low : (start : Start) (base urgent : ℕ) → base ≤ firstTerm start base urgent
@@ -105,19 +115,14 @@ module _ (start : Start) (lent : Call) (result : Left) (o : Outcome start lent r
   written : Written start lent result
   written = demand2 start lent result o accepted
 
-  few-tasks : taskCount bytes ≤ 32
-  few-tasks =
-      omega (arith, right .head .counts taskCountField .high, layout-sound bytes (right .head .version) .few)
-
   module _ (i : ℕ) (h : i < taskCount bytes) where
-    deadline-small : taskOf (tasksOf bytes) i .deadline ≤ 1000000
-    deadline-small =
-        omega (arith, ap (λ (t : Task). t .deadline) (task-is bytes i h), right .records i h deadlineField .high)
+    due-small : taskOf (tasksOf bytes) i .deadline ≤ 1000000
+    due-small = omega (arith, ap (λ (t : Task). t .deadline) (task-is bytes i h), deadline-small 1 bytes right i h)
 
     answer-small : wordOf (result .answers) i ≤ 1000000
     answer-small =
         elim (decLe 1 (wordOf (result .answers) i)) [
-          | yes p ↦ omega (arith, deadline-small, written .answersRight i h .answered p .3)
+          | yes p ↦ omega (arith, due-small, written .answersRight i h .answered p .3)
           | no p ↦ omega arith
         ]
 
@@ -134,21 +139,21 @@ module _ (start : Start) (lent : Call) (result : Left) (o : Outcome start lent r
           start-low start (baseOf (tableOf bytes) i) (sumOf costOf (loadsOf (tasksOf bytes) i)),
         ) in
         elim (decLe (first + latest) due) [
-          | yes p ↦ omega (arith, deadline-small, written .roundsRight i h .within p)
+          | yes p ↦ omega (arith, due-small, written .roundsRight i h .within p)
           | no p ↦ omega (arith, written .roundsRight i h .otherwise (omega arith))
         ]
 
-    small : Small (getD (result .answers) i 0) (deadlineShown bytes i) (getD (result .rounds) i 0)
+    small : Small 7 (getD (result .answers) i 0) (getD (result .rounds) i 0)
     small =
         record {
-          answerSmall = answer-small;
-          deadlineSmall =
-              omega (arith, deadline-shown bytes i, right .records i h deadlineField .high);
-          roundsSmall = rounds-small;
+          answerSmall = λ _. answer-small;
+          countSmall = seven-digits (getD (result .rounds) i 0) rounds-small;
         }
 
-  all-long : length (tasksText bytes (result .answers) (result .rounds)) ≤ 1663
-  all-long = tasks-long bytes (result .answers) (result .rounds) few-tasks small
+  judged-long : (last : List ℕ) → length last ≤ 12 →
+      length (tasksText (bytesOf " rounds ") bytes (result .answers) (result .rounds) ++ last) ≤ longest
+  judged-long last short =
+      text-long 1 bytes right (bytesOf " rounds ") (result .answers) (result .rounds) last 7 small short
 
 pub textFits : TextFits
 textFits start lent result o = go (result .verdict) refl
@@ -162,19 +167,10 @@ textFits start lent result o = go (result .verdict) refl
     go : (v : Verdict) → result .verdict ≡ v → length (textOf (lent .bytes) v (result .answers) (result .rounds)) ≤ longest
     go (verdict.Refused refusal) is = omega (arith, refused-long refusal (place is))
     go verdict.Schedulable is =
-        omega (
-          arith,
-          length-append (tasksText (lent .bytes) (result .answers) (result .rounds)) (bytesOf "schedulable\n"),
-          all-long start lent result o (never is (λ r e. let z : _≡_ {A = ℕ} 0 1 = cc in omega arith)),
-        )
+        judged-long start lent result o (never is (λ r e. let z : _≡_ {A = ℕ} 0 1 = cc in omega arith)) (bytesOf "schedulable\n") (omega arith)
     go (verdict.Late first) is =
-        omega (
-          arith,
-          length-append (tasksText (lent .bytes) (result .answers) (result .rounds)) (lineWithNumber (bytesOf "late ") (first .0)),
-          all-long start lent result o (never is (λ r e. let z : _≡_ {A = ℕ} 0 1 = cc in omega arith)),
-          line-long (bytesOf "late ") (first .0),
-          few-digits (first .0) 5 (omega arith) (omega (arith, place is)),
-        )
+        judged-long start lent result o (never is (λ r e. let z : _≡_ {A = ℕ} 0 1 = cc in omega arith))
+        (lineWithNumber (bytesOf "late ") (first .0)) (omega (arith, place-line-long (bytesOf "late ") (first .0) (place is)))
 
 pub longestReached : LongestReached
 unfolding decimalOf firstFrom taskLines layoutFor tabulate joined

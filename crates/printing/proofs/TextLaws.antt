@@ -1,4 +1,4 @@
--- The parts of a table's text: late or not, a deadline that is there or not, one line more.
+-- The parts of a table's text: late, open or neither, a deadline that is there or not, one line more.
 -- Assumes nothing.
 use Prim.Native.Nat.{ℕ, _+_, _*_, _≤_, _<_}
 use native.Mathlib.Omega.{arith}
@@ -13,21 +13,25 @@ use Rattle.tables.specs.declared.layout.Layout.{Layout}
 use Rattle.tables.specs.Layout.{wordAt, layoutOf, taskCount, recordStart, deadlineAt}
 use Rattle.tables.proofs.LayoutLaws.{size-small}
 use Rattle.printing.specs.Appended.{Appended}
-use Rattle.printing.specs.Text.{bytesOf, withNumber, lineWithNumber, responseText, taskLine, taskLines, tasksText, deadlineShown}
+use Rattle.printing.specs.Text.{bytesOf, withNumber, lineWithNumber, openWord, responseText, taskLine, taskLines, tasksText, deadlineShown}
 use Rattle.printing.proofs.AppendLaws.{then, nothing, as-text}
 
 pub response-late : (answer : ℕ) → answer ≡ 0 → bytesOf " late" ≡ responseText answer
-response-late answer e =
-    elim (eqb? answer 0) [
-      | inl p ↦ rw (p .0) refl
-      | inr p ↦ absurd (p .1 e)
-    ]
+response-late answer e = rw e
 
-pub response-told : (answer : ℕ) → (answer ≡ 0 → ⊥) → withNumber (bytesOf " response ") answer ≡ responseText answer
-response-told answer d =
+pub response-open : (answer : ℕ) → answer ≡ openWord → bytesOf " open" ≡ responseText answer
+response-open answer e = rw e
+
+pub response-told : (answer : ℕ) → (answer ≡ 0 → ⊥) → (answer ≡ openWord → ⊥) →
+    withNumber (bytesOf " response ") answer ≡ responseText answer
+response-told answer notLate notOpen =
     elim (eqb? answer 0) [
-      | inl p ↦ absurd (d (p .1))
-      | inr p ↦ rw (p .0) refl
+      | inl p ↦ absurd (notLate (p .1))
+      | inr p ↦
+          elim (eqb? answer openWord) [
+            | inl q ↦ absurd (notOpen (q .1))
+            | inr q ↦ rw (p .0, q .0)
+          ]
     ]
 
 -- where the code looks for a deadline is where the layout has it
@@ -65,45 +69,46 @@ module _ (bytes : List ℕ) (layout : Layout) (decided : layout ≡ layoutOf byt
 pub past-end : (words : List ℕ) (place : ℕ) → length words ≤ place → 0 ≡ getD words place 0
 past-end words place h = sym (List·getD-eq-default words 0 h)
 
--- the lines of the first i tasks
-pub record Lines (old : List ℕ) (at : ℕ) (bytes answers rounds : List ℕ) (n i next : ℕ) (new : List ℕ) : Type 0 where
+-- the lines of the first i tasks, whatever word stands in front of their last number
+pub record Lines (old : List ℕ) (at : ℕ) (word bytes answers counts : List ℕ) (n i next : ℕ) (new : List ℕ) : Type 0 where
   pub most : i ≤ n
   pub counted : n ≡ taskCount bytes
   pub few : n < 256
-  pub lines : Appended old at (taskLines bytes answers rounds i) next new
+  pub lines : Appended old at (taskLines word bytes answers counts i) next new
 
-pub lines-none : (old : List ℕ) (at : ℕ) (bytes answers rounds : List ℕ) (n : ℕ) → n ≡ taskCount bytes → n < 256 →
-    Lines old at bytes answers rounds n 0 at old
+pub lines-none : (old : List ℕ) (at : ℕ) (word bytes answers counts : List ℕ) (n : ℕ) → n ≡ taskCount bytes → n < 256 →
+    Lines old at word bytes answers counts n 0 at old
 unfolding taskLines
-lines-none old at bytes answers rounds n e h =
+lines-none old at word bytes answers counts n e h =
     record { most = omega arith; counted = e; few = h; lines = nothing old at }
 
-one-more : (bytes answers rounds : List ℕ) (i answer deadline round : ℕ) → answer ≡ getD answers i 0 → deadline ≡ deadlineShown bytes i →
-    round ≡ getD rounds i 0 → taskLines bytes answers rounds i ++ taskLine i answer deadline round ≡ taskLines bytes answers rounds (i + 1)
+one-more : (word bytes answers counts : List ℕ) (i answer deadline count : ℕ) → answer ≡ getD answers i 0 → deadline ≡ deadlineShown bytes i →
+    count ≡ getD counts i 0 →
+    taskLines word bytes answers counts i ++ taskLine word i answer deadline count ≡ taskLines word bytes answers counts (i + 1)
 unfolding taskLines
-one-more bytes answers rounds i answer deadline round a d r =
-    ap (λ (x : ℕ). taskLines bytes answers rounds i ++ taskLine i x deadline round) a
-    ∙ ap (λ (x : ℕ). taskLines bytes answers rounds i ++ taskLine i (getD answers i 0) x round) d
-    ∙ ap (λ (x : ℕ). taskLines bytes answers rounds i ++ taskLine i (getD answers i 0) (deadlineShown bytes i) x) r
-    ∙ ap (taskLines bytes answers rounds) (sym (add-one i))
+one-more word bytes answers counts i answer deadline count a d r =
+    ap (λ (x : ℕ). taskLines word bytes answers counts i ++ taskLine word i x deadline count) a
+    ∙ ap (λ (x : ℕ). taskLines word bytes answers counts i ++ taskLine word i (getD answers i 0) x count) d
+    ∙ ap (λ (x : ℕ). taskLines word bytes answers counts i ++ taskLine word i (getD answers i 0) (deadlineShown bytes i) x) r
+    ∙ ap (taskLines word bytes answers counts) (sym (add-one i))
 
-pub lines-more : {old : List ℕ} {at : ℕ} {bytes answers rounds : List ℕ} {n i next end : ℕ} {middle new : List ℕ} {answer deadline round : ℕ} →
-    Lines old at bytes answers rounds n i next middle → i < n → answer ≡ getD answers i 0 → deadline ≡ deadlineShown bytes i →
-    round ≡ getD rounds i 0 → Appended middle next (taskLine i answer deadline round) end new →
-    Lines old at bytes answers rounds n (i + 1) end new
-lines-more {bytes = bytes} {answers = answers} {rounds = rounds} {i = i} {answer = answer} {deadline = deadline} {round = round} l h a d r line =
+pub lines-more : {old : List ℕ} {at : ℕ} {word bytes answers counts : List ℕ} {n i next end : ℕ} {middle new : List ℕ} {answer deadline count : ℕ} →
+    Lines old at word bytes answers counts n i next middle → i < n → answer ≡ getD answers i 0 → deadline ≡ deadlineShown bytes i →
+    count ≡ getD counts i 0 → Appended middle next (taskLine word i answer deadline count) end new →
+    Lines old at word bytes answers counts n (i + 1) end new
+lines-more {word = word} {bytes = bytes} {answers = answers} {counts = counts} {i = i} {answer = answer} {deadline = deadline} {count = count} l h a d r line =
     record {
       most = omega arith;
       counted = l .counted;
       few = l .few;
-      lines = as-text (then (l .lines) line) (one-more bytes answers rounds i answer deadline round a d r);
+      lines = as-text (then (l .lines) line) (one-more word bytes answers counts i answer deadline count a d r);
     }
 
-pub lines-all : {old middle new : List ℕ} {at between next : ℕ} {bytes answers rounds : List ℕ} {n i : ℕ} →
-    Appended old at (lineWithNumber (bytesOf "tasks ") n) between middle → Lines middle between bytes answers rounds n i next new → n ≤ i →
-    Appended old at (tasksText bytes answers rounds) next new
-lines-all {bytes = bytes} {answers = answers} {rounds = rounds} {n = n} {i = i} first l h =
+pub lines-all : {old middle new : List ℕ} {at between next : ℕ} {word bytes answers counts : List ℕ} {n i : ℕ} →
+    Appended old at (lineWithNumber (bytesOf "tasks ") n) between middle → Lines middle between word bytes answers counts n i next new → n ≤ i →
+    Appended old at (tasksText word bytes answers counts) next new
+lines-all {word = word} {bytes = bytes} {answers = answers} {counts = counts} {n = n} {i = i} first l h =
     let e : i ≡ n = omega (arith, l .most) in
     as-text (then first (l .lines))
-    (ap (λ (x : ℕ). lineWithNumber (bytesOf "tasks ") n ++ taskLines bytes answers rounds x) e
-    ∙ ap (λ (x : ℕ). lineWithNumber (bytesOf "tasks ") x ++ taskLines bytes answers rounds x) (l .counted))
+    (ap (λ (x : ℕ). lineWithNumber (bytesOf "tasks ") n ++ taskLines word bytes answers counts x) e
+    ∙ ap (λ (x : ℕ). lineWithNumber (bytesOf "tasks ") x ++ taskLines word bytes answers counts x) (l .counted))

@@ -1,12 +1,12 @@
-// The text for a table and its verdict (SPECIFICATION 10; document 01). It is built in a lent buffer, so that a program writes it in one
-// call.
+// The text for a table and its verdict (SPECIFICATION 10; document 01); the tasks' lines in it are those of both analyses (document 02,
+// L8). It is built in a lent buffer, so that a program writes it in one call.
 ghost use mathlib.Core.Path.{_≡_};
 ghost use Prim.Native.Nat.{_<_};
 ghost use lib.ListN.{getD};
 ghost use Rattle.tables.specs.Layout.{taskCount};
 ghost use Rattle.printing.specs.Appended.{Appended};
 ghost use Rattle.printing.specs.Answered.{answerText};
-ghost use Rattle.printing.specs.Text.{textOf, verdictLine, lineWithNumber, refusedLine, tasksText, taskLine, responseText, deadlineShown};
+ghost use Rattle.printing.specs.Text.{textOf, judgedText, verdictLine, lineWithNumber, refusalLine, refusedLine, tasksText, taskLine, responseText, deadlineShown};
 use model::Place;
 use model::Ticks;
 use response::Start;
@@ -25,6 +25,9 @@ pub use pieces::append_with_number;
 
 // Bytes enough for the text of any table, and for the longest no more than enough: `longest` of specs/Longest.antt.
 pub const LONGEST: usize = 1675;
+
+// The answer of a task that the second analysis leaves open: `openWord` of specs/Text.antt.
+const OPEN: u32 = 4294967295;
 
 // Analyses the table from either start, and puts the text of what the analysis says at the buffer's beginning; answers where it ends.
 pub fn answer_text(start: Start, table: &[u8], out: &mut [u8]) -> usize
@@ -49,15 +52,24 @@ pub fn text(
 {
     match verdict {
         Verdict::Refused(_) => verdict_line(out, at, verdict),
-        Verdict::Schedulable => {
-            let next = tasks(out, at, table, answers, rounds);
-            verdict_line(out, next, verdict)
-        }
-        Verdict::Late(_) => {
-            let next = tasks(out, at, table, answers, rounds);
-            verdict_line(out, next, verdict)
-        }
+        Verdict::Schedulable => judged(out, at, table, verdict, answers, rounds),
+        Verdict::Late(_) => judged(out, at, table, verdict, answers, rounds),
     }
+}
+
+// The tasks' lines, with their rounds, and the verdict's.
+fn judged(
+    out: &mut [u8],
+    at: usize,
+    table: &[u8],
+    verdict: Verdict,
+    answers: &[u32],
+    rounds: &[u32],
+) -> usize
+    ensures { λ r. ⌜ Appended (now (out .entry)) at (judgedText (now (table .entry)) verdict (now (answers .entry)) (now (rounds .entry))) r (now (out .exit)) ⌝ }
+{
+    let next = tasks(out, at, table, b" rounds ", answers, rounds);
+    verdict_line(out, next, verdict)
 }
 
 // The line that says the verdict.
@@ -93,13 +105,27 @@ pub fn line_with_number(out: &mut [u8], at: usize, word: &[u8], number: u64) -> 
 fn refused(out: &mut [u8], at: usize, refusal: Refusal) -> usize
     ensures { λ r. ⌜ Appended (now (out .entry)) at (refusedLine refusal) r (now (out .exit)) ⌝ }
 {
-    let next = append_with_number(out, at, b"refused ", tables::number(refusal) as u64);
-    line_with_number(out, next, b" at ", tables::place(refusal) as u64)
+    refusal_line(out, at, tables::number(refusal), tables::place(refusal))
 }
 
-// The number of tasks, and a line for each.
-fn tasks(out: &mut [u8], at: usize, table: &[u8], answers: &[u32], rounds: &[u32]) -> usize
-    ensures { λ r. ⌜ Appended (now (out .entry)) at (tasksText (now (table .entry)) (now (answers .entry)) (now (rounds .entry))) r (now (out .exit)) ⌝ }
+// The same by the refusal's number and place.
+pub fn refusal_line(out: &mut [u8], at: usize, number: u32, place: usize) -> usize
+    ensures { λ r. ⌜ Appended (now (out .entry)) at (refusalLine number place) r (now (out .exit)) ⌝ }
+{
+    let next = append_with_number(out, at, b"refused ", number as u64);
+    line_with_number(out, next, b" at ", place as u64)
+}
+
+// The number of tasks, and a line for each, with the label in front of its last number.
+pub fn tasks(
+    out: &mut [u8],
+    at: usize,
+    table: &[u8],
+    label: &[u8],
+    answers: &[u32],
+    counts: &[u32],
+) -> usize
+    ensures { λ r. ⌜ Appended (now (out .entry)) at (tasksText (now (label .entry)) (now (table .entry)) (now (answers .entry)) (now (counts .entry))) r (now (out .exit)) ⌝ }
 {
     let n = task_count(table);
     let mut next = line_with_number(out, at, b"tasks ", n as u64);
@@ -108,10 +134,11 @@ fn tasks(out: &mut [u8], at: usize, table: &[u8], answers: &[u32], rounds: &[u32
         next = task(
             out,
             next,
+            label,
             place,
             Ticks(word(answers, place)),
             deadline(table, place),
-            word(rounds, place),
+            word(counts, place),
         );
     }
     next
@@ -121,25 +148,28 @@ fn tasks(out: &mut [u8], at: usize, table: &[u8], answers: &[u32], rounds: &[u32
 fn task(
     out: &mut [u8],
     at: usize,
+    label: &[u8],
     place: Place,
     answer: Ticks,
     deadline: Ticks,
-    rounds: u32,
+    count: u32,
 ) -> usize
-    ensures { λ r. ⌜ Appended (now (out .entry)) at (taskLine (place .0) (answer .0) (deadline .0) rounds) r (now (out .exit)) ⌝ }
+    ensures { λ r. ⌜ Appended (now (out .entry)) at (taskLine (now (label .entry)) (place .0) (answer .0) (deadline .0) count) r (now (out .exit)) ⌝ }
 {
     let placed = append_number(out, at, place.0 as u64);
     let answered = response(out, placed, answer);
     let next = append_with_number(out, answered, b" deadline ", deadline.0 as u64);
-    line_with_number(out, next, b" rounds ", rounds as u64)
+    line_with_number(out, next, label, count as u64)
 }
 
-// An answer of 0 is late.
+// An answer of 0 is late, and the open word is open.
 fn response(out: &mut [u8], at: usize, answer: Ticks) -> usize
     ensures { λ r. ⌜ Appended (now (out .entry)) at (responseText (answer .0)) r (now (out .exit)) ⌝ }
 {
     if answer.0 == 0 {
         append(out, at, b" late")
+    } else if answer.0 == OPEN {
+        append(out, at, b" open")
     } else {
         append_with_number(out, at, b" response ", answer.0 as u64)
     }

@@ -20,9 +20,6 @@ cast-append-with-number c = search needs
 append-with-number-requires : tie.Need-append-with-number-requires
 append-with-number-requires c κs = search needs
 
-slice-aggregate-line-with-number : tie.Need-slice-aggregate-line-with-number
-slice-aggregate-line-with-number c = search needs
-
 line-with-number-requires : tie.Need-line-with-number-requires
 line-with-number-requires c κs = search needs
 
@@ -30,7 +27,7 @@ same-length : tie.Need-same-length
 same-length c = search needs
 
 returns : tie.Need-returns
-returns c = then (then (then (c .before .before .before .before .before .before .before .before .before .before .before .before .before .before .before .before .before .append-number .ensures) (c .before .before .before .before .before .before .before .before .before .before .before .before .before .response .ensures)) (c .before .before .before .before .before .before .before .append-with-number .ensures)) (c .before .before .line-with-number .ensures)
+returns c = then (then (then (c .before .before .before .before .before .before .before .before .before .before .before .before .before .before .before .before .append-number .ensures) (c .before .before .before .before .before .before .before .before .before .before .before .before .response .ensures)) (c .before .before .before .before .before .before .append-with-number .ensures)) (c .before .before .line-with-number .ensures)
 
 pub task-spec : {M : Type 1} → statement M
 task-spec =
@@ -41,7 +38,6 @@ task-spec =
     slice-aggregate-append-with-number
     cast-append-with-number
     append-with-number-requires
-    slice-aggregate-line-with-number
     line-with-number-requires
     same-length
     returns)

@@ -10,10 +10,10 @@ use Rattle.printing.proofs.tasks.Statement.{statement}
 use Rattle.printing.proofs.tasks.Tie as tie
 
 abbrev Inv-loop : tie.InvT-loop
-Inv-loop out₀ at table answers rounds n next₀ i₀ out next i = Lines out₀ next₀ table answers rounds n i next out
+Inv-loop out₀ at table label answers counts n next₀ i₀ out next i = Lines out₀ next₀ label table answers counts n i next out
 
 abbrev μ-loop : tie.MeasureT-loop
-μ-loop out₀ at table answers rounds n next₀ i₀ out next i = n - i
+μ-loop out₀ at table label answers counts n next₀ i₀ out next i = n - i
 
 task-count-requires : tie.Need-task-count-requires Inv-loop μ-loop
 task-count-requires c κs = search needs
@@ -25,7 +25,7 @@ line-with-number-requires : tie.Need-line-with-number-requires Inv-loop μ-loop
 line-with-number-requires c κs = search needs
 
 loop-holds : tie.Need-loop-holds Inv-loop μ-loop
-loop-holds c = lines-none _ _ _ _ _ _ (c .before .before .before .before .before .task-count .ensures .0) (c .before .before .before .before .before .task-count .ensures .1)
+loop-holds c = lines-none _ _ _ _ _ _ _ (c .before .before .before .before .before .task-count .ensures .0) (c .before .before .before .before .before .task-count .ensures .1)
 
 word-requires : tie.Need-word-requires Inv-loop μ-loop
 word-requires c κs = search needs
