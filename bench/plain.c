@@ -2,12 +2,15 @@
  * without proofs: decoded once into local arrays, one divide for each load and round, and no
  * cleverness beyond that. Compiled with -DSKIP_DIVIDE it leaves out the divides that L2 does
  * without. Compiled with -DMARKS it keeps a mark for each load, as our library does.
- * plain_own_cost.c compiles it with OWN_COST, for L5's other start. */
+ * plain_own_cost.c compiles it with OWN_COST, for L5's other start, and plain_past.c with PAST, with
+ * a respond of its own, for L8. */
 #include "plain.h"
 #include "plain_blocking.h"
 #include "plain_table.h"
 
-#ifdef OWN_COST
+#if defined PAST
+#define ENTRY plain_analyse_past_period
+#elif defined OWN_COST
 #define ENTRY plain_analyse_from_own_cost
 #else
 #define ENTRY plain_analyse
@@ -18,73 +21,23 @@
  * L6). */
 
 #ifdef MARKS
+#include "plain_marks.h"
+#else
+#include "plain_demand.h"
+#endif
 
-/* The loads' marks: a load's mark is the last window, raised by the greatest spread, for which the
- * number of its periods begun holds. */
-enum { RAISE = MOST_TICKS };
+#if defined PAST
 
-static uint32_t first_mark(const struct tasks *tasks, size_t j)
-{
-    return tasks->T[j] + (RAISE - tasks->spread[j]);
-}
+/* plain_past.c has the answer of task i. */
 
-static uint32_t least_first(const struct tasks *tasks)
-{
-    uint32_t least = UINT32_MAX;
-
-    for (size_t j = 0; j < tasks->n; j++)
-        if (first_mark(tasks, j) < least)
-            least = first_mark(tasks, j);
-    return least;
-}
-
-/* Each task before the end has begun one period; task i is none of its own loads. The 0 behind the
- * marks ends every search. */
-static void set_first(const struct tasks *tasks, size_t i, size_t end, uint32_t *marks)
-{
-    for (size_t j = 0; j < end; j++)
-        marks[j] = first_mark(tasks, j);
-    marks[end] = 0;
-    if (i < end)
-        marks[i] = UINT32_MAX;
-}
-
-static size_t next_below(const uint32_t *marks, uint32_t least, size_t j)
-{
-    while (marks[j] >= least)
-        j++;
-    return j;
-}
-
-/* Moves the marks that the window has passed. It gives the sum, and the least mark, which is looked
- * for up to so many ticks ahead. */
-static uint64_t pass(const struct tasks *tasks, size_t end, uint32_t window, uint32_t ahead,
-                     uint64_t sum, uint32_t *marks, uint32_t *least)
-{
-    uint32_t lowest = window + ahead;
-
-    for (size_t j = next_below(marks, lowest, 0); j < end; j = next_below(marks, lowest, j + 1)) {
-        if (marks[j] < window) {
-            uint32_t over = window - marks[j], begun = 1;
-
-            if (over > tasks->T[j])
-                begun = (over - 1) / tasks->T[j] + 1;
-            sum += (uint64_t)begun * tasks->C[j];
-            marks[j] += begun * tasks->T[j];
-        }
-        if (marks[j] < lowest)
-            lowest = marks[j];
-    }
-    *least = lowest;
-    return sum;
-}
+#elif defined MARKS
 
 /* The answer of task i, and its rounds from that start; once is base and one cost of each load. */
 static uint32_t respond(const struct tasks *tasks, size_t i, size_t end, uint32_t once,
                         uint32_t start, uint32_t least, uint32_t *rounds)
 {
     uint32_t window = start, done = 1, answer = 0;
-    uint32_t ahead = least > RAISE ? least - RAISE : 0;
+    uint32_t ahead = look_ahead(least);
     uint32_t marks[MOST_TASKS + 1];
     uint64_t sum = once;
 
@@ -113,8 +66,6 @@ static uint32_t respond(const struct tasks *tasks, size_t i, size_t end, uint32_
 }
 
 #else
-
-#include "plain_demand.h"
 
 /* The answer of task i, and its rounds from that start. */
 static uint32_t respond(const struct tasks *tasks, size_t i, size_t end, uint32_t base,
@@ -158,6 +109,10 @@ uint64_t ENTRY(const uint8_t *table, size_t table_len,
         return result;
     if (answers_len < tasks.n || rounds_len < tasks.n)
         return verdict(8, 0);
+#ifdef PAST
+    if (has_delay(&tasks))
+        return verdict(11, 0);
+#endif
 #ifdef MARKS
     least = least_first(&tasks);
 #endif
@@ -182,6 +137,10 @@ uint64_t ENTRY(const uint8_t *table, size_t table_len,
 #endif
         if (answers[i] == 0 && result == 0)
             result = verdict(LATE, i);
+#ifdef PAST
+        if (answers[i] == OPEN_WORD && result == 0)
+            result = verdict(OPEN, i);
+#endif
     }
     return result;
 }

@@ -1,5 +1,6 @@
-/* plain.h: the analysis of document 01, the engine of document 02, L1, and the checker of claims of
- * its L7 in plain C, to test and to measure against. All read tables of versions 1 and 2. */
+/* plain.h: the analysis of document 01, the engine of document 02, L1, the checker of claims of its
+ * L7 and the second analysis of its L8 in plain C, to test and to measure against. All read tables of
+ * versions 1 and 2. */
 #ifndef PLAIN_H
 #define PLAIN_H
 
@@ -17,6 +18,13 @@ uint64_t plain_analyse(const uint8_t *table, size_t table_len,
 uint64_t plain_analyse_from_own_cost(const uint8_t *table, size_t table_len,
                                      uint32_t *answers, size_t answers_len,
                                      uint32_t *rounds, size_t rounds_len);
+
+/* The second analysis, for deadlines of up to four periods and no delays. The verdict is packed in the
+ * same way: 11 is a refusal too, and 254 is open, with the word UINT32_MAX among the answers. The
+ * second slice gets how many q were tried. */
+uint64_t plain_analyse_past_period(const uint8_t *table, size_t table_len,
+                                   uint32_t *answers, size_t answers_len,
+                                   uint32_t *tried, size_t tried_len);
 
 /* The engine; the verdict is packed in the same way, and 9 is a refusal too. It refuses equal
  * priorities with that (document 02, L6). */

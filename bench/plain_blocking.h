@@ -1,5 +1,5 @@
 /* plain_blocking.h: blocking in plain C. Like plain_table.h it is compiled into each file that
- * needs it, plain.c, plain_own_cost.c and plain_claims.c. */
+ * needs it, plain.c, plain_own_cost.c, plain_past.c and plain_claims.c. */
 #ifndef PLAIN_BLOCKING_H
 #define PLAIN_BLOCKING_H
 

@@ -4,15 +4,6 @@
 #include "plain.h"
 #include "plain_table.h"
 
-/* A delay that is not 0; the earliest is no greater than the latest. */
-static int has_delay(const struct tasks *tasks)
-{
-    for (size_t i = 0; i < tasks->n; i++)
-        if (tasks->latest[i])
-            return 1;
-    return 0;
-}
-
 /* Two tasks of one priority stand side by side. */
 static int has_tie(const struct tasks *tasks)
 {

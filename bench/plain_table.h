@@ -1,5 +1,5 @@
 /* plain_table.h: reading a table in plain C, decoded once into arrays. It is compiled into each of
- * plain.c, plain_own_cost.c, plain_play.c and plain_claims.c, as if each stood alone. */
+ * plain.c, plain_own_cost.c, plain_past.c, plain_play.c and plain_claims.c, as if each stood alone. */
 #ifndef PLAIN_TABLE_H
 #define PLAIN_TABLE_H
 
@@ -13,6 +13,7 @@ enum {
     MOST_TICKS = 1000000,
     HEADER_BYTES = 5,
     ROW_BYTES = 6,
+    OPEN = 254,
     LATE = 255
 };
 
@@ -29,6 +30,12 @@ enum {
     SEMAPHORE_AT = 1,
     LENGTH_AT = 2
 };
+
+/* How many periods a deadline may span; plain_past.c has defined it by now. (It is no argument of
+ * read_table, so that the files in which it is 1 are compiled as if there were nothing else.) */
+#ifndef SPAN
+#define SPAN 1
+#endif
 
 /* What the version decides. */
 struct layout {
@@ -132,7 +139,7 @@ static uint64_t read_tasks(const uint8_t *at, const struct layout *layout, struc
             return verdict(5, task_at(layout, i) + T_AT);
         if (C < 1 || C > MOST_TICKS)
             return verdict(5, task_at(layout, i) + C_AT);
-        if (D < 1 || D > T)
+        if (D < 1 || D > SPAN * T || (SPAN > 1 && D > MOST_TICKS))
             return verdict(5, task_at(layout, i) + D_AT);
         if (earliest > MOST_TICKS)
             return verdict(5, task_at(layout, i) + layout->earliest_at);
@@ -196,6 +203,16 @@ static uint64_t read_table(const uint8_t *table, size_t length, struct tasks *ta
     if (result)
         return result;
     return read_rows(table + row_at(&layout, tasks->n, 0), &layout, tasks, rows);
+}
+
+/* A delay that is not 0; the earliest is no greater than the latest. (It is inline since not every
+ * file calls it.) */
+static inline int has_delay(const struct tasks *tasks)
+{
+    for (size_t i = 0; i < tasks->n; i++)
+        if (tasks->latest[i])
+            return 1;
+    return 0;
 }
 
 #endif
