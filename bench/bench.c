@@ -1,8 +1,10 @@
 /* bench TABLE REPEATS: makes one call on the same table that many times, so that a counting tool
  * can take the difference of two runs. It calls the analysis, from document 01's start if it is
- * built with -DOWN_COST, or the engine if it is built with -DPLAY, or the checker of claims if it
- * is built with -DCLAIMS; that of the library if it is built with -DOURS, else that of plain C.
- * Built with -DROUNDS it prints the rounds of all tasks in one call, 0 if the table is refused.
+ * built with -DOWN_COST, or the second analysis, of document 02's L8, if it is built with -DPAST,
+ * or the engine if it is built with -DPLAY, or the checker of claims if it is built with -DCLAIMS;
+ * that of the library if it is built with -DOURS, else that of plain C. Built with -DROUNDS it
+ * prints the rounds of all tasks in one call, of the second analysis how many q they tried, 0 if
+ * the table is refused.
  *
  * The claims are the answers, and for a late task its deadline; with -DTOO_FEW the last is left
  * out. */
@@ -17,7 +19,9 @@
 #include "ulmerascio.h"
 #define play ulmerascio_play
 #define check_claims ulmerascio_check_claims
-#ifdef OWN_COST
+#if defined PAST
+#define analyse ulmerascio_analyse_past_period
+#elif defined OWN_COST
 #define analyse ulmerascio_analyse_from_own_cost
 #else
 #define analyse ulmerascio_analyse
@@ -26,7 +30,9 @@
 #include "plain.h"
 #define play plain_play
 #define check_claims plain_check_claims
-#ifdef OWN_COST
+#if defined PAST
+#define analyse plain_analyse_past_period
+#elif defined OWN_COST
 #define analyse plain_analyse_from_own_cost
 #else
 #define analyse plain_analyse

@@ -2,8 +2,8 @@
  * without proofs: decoded once into local arrays, one divide for each load and round, and no
  * cleverness beyond that. Compiled with -DSKIP_DIVIDE it leaves out the divides that L2 does
  * without. Compiled with -DMARKS it keeps a mark for each load, as our library does.
- * plain_own_cost.c compiles it with OWN_COST, for L5's other start, and plain_past.c with PAST, with
- * a respond of its own, for L8. */
+ * plain_own_cost.c compiles it with OWN_COST, for L5's other start, and plain_past.c with PAST, for
+ * L8. */
 #include "plain.h"
 #include "plain_blocking.h"
 #include "plain_table.h"
@@ -27,9 +27,7 @@
 #endif
 
 #if defined PAST
-
-/* plain_past.c has the answer of task i. */
-
+/* The answer of task i is in plain_past.c. */
 #elif defined MARKS
 
 /* The answer of task i, and its rounds from that start; once is base and one cost of each load. */

@@ -1,6 +1,6 @@
 /* plain.h: the analysis of document 01, the engine of document 02, L1, the checker of claims of its
- * L7 and the second analysis of its L8 in plain C, to test and to measure against. All read tables of
- * versions 1 and 2. */
+ * L7 and the second analysis of its L8 in plain C, to test and to measure against. All read tables
+ * of versions 1 and 2. */
 #ifndef PLAIN_H
 #define PLAIN_H
 
@@ -19,9 +19,9 @@ uint64_t plain_analyse_from_own_cost(const uint8_t *table, size_t table_len,
                                      uint32_t *answers, size_t answers_len,
                                      uint32_t *rounds, size_t rounds_len);
 
-/* The second analysis, for deadlines of up to four periods and no delays. The verdict is packed in the
- * same way: 11 is a refusal too, and 254 is open, with the word UINT32_MAX among the answers. The
- * second slice gets how many q were tried. */
+/* The second analysis: deadlines may be up to four periods long, and delays are refused with 11.
+ * The verdict is packed in the same way, and code 254 is open; the answer of an open task is
+ * UINT32_MAX. The second slice gets how many q were tried. */
 uint64_t plain_analyse_past_period(const uint8_t *table, size_t table_len,
                                    uint32_t *answers, size_t answers_len,
                                    uint32_t *tried, size_t tried_len);

@@ -1,6 +1,7 @@
 /* plain_demand.h: demand at one window in plain C, with a divide for each load; compiled with
  * -DSKIP_DIVIDE, without those that document 02's L2 does without. Like plain_table.h it is
- * compiled into each file that needs it, plain.c, plain_own_cost.c, plain_past.c and plain_claims.c. */
+ * compiled into each file that needs it, plain.c, plain_own_cost.c, plain_past.c and
+ * plain_claims.c. */
 #ifndef PLAIN_DEMAND_H
 #define PLAIN_DEMAND_H
 

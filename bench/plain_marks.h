@@ -1,5 +1,6 @@
-/* plain_marks.h: the loads' marks in plain C, our library's method. Like plain_table.h it is compiled
- * into each file that needs it, plain.c, plain_own_cost.c and plain_past.c with -DMARKS. */
+/* plain_marks.h: the loads' marks in plain C, the method of our library. Like plain_table.h it is
+ * compiled into each file that needs it: plain.c, plain_own_cost.c and plain_past.c, with
+ * -DMARKS. */
 #ifndef PLAIN_MARKS_H
 #define PLAIN_MARKS_H
 

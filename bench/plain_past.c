@@ -1,9 +1,10 @@
-/* plain_past.c: the second analysis, document 02's L8, as one would write it in C, without proofs. It
- * is the analysis of plain.c, compiled in the same three ways, but for how a task's answer is found.
+/* plain_past.c: the second analysis, document 02's L8, as one would write it in C, without proofs.
+ * It is the analysis of plain.c, compiled in the same three ways, but for how a task's answer is
+ * found.
  *
- * For each q a window is looked for that is B + (1 + q) * C and what the loads ask for in it. None is
- * started over: the next q goes on from the window that was found, with one C more, and the marks
- * stay. */
+ * For each q a window is looked for that is B + (1 + q) * C and what the loads ask for in it.
+ * Nothing starts over: the next q goes on from the window that was found, with one C more, and the
+ * marks stay. */
 #define PAST
 #define SPAN 4
 #include "plain_table.h"
@@ -15,7 +16,7 @@ enum { MOST_TRIED = 64 };
 
 #include "plain_marks.h"
 
-/* How far task i has come: the window, and what is asked for up to the marks. */
+/* How far a task has come: the window, and what is asked for up to the marks. */
 struct course {
     size_t end;
     uint32_t window, least, ahead;
@@ -60,29 +61,31 @@ static void add_job(struct course *course, uint32_t C)
 
 #endif
 
-/* Goes on to the next window that is what is asked for in it. Is there one within the limit? */
+/* Goes on to the first window that is what is asked for in it. Is there one within the limit? */
 static int settle(const struct tasks *tasks, uint32_t limit, struct course *course)
 {
-    uint64_t next = course->window;
+    if (course->window > limit)
+        return 0;
+    for (;;) {
+        uint64_t next = asked(tasks, course);
 
-    while (next <= limit) {
-        course->window = (uint32_t)next;
-        next = asked(tasks, course);
+        if (next > limit)
+            return 0;
         if (next == course->window)
             return 1;
+        course->window = (uint32_t)next;
     }
-    return 0;
 }
 
 /* The answer of task i, and how many q were tried for it. */
 static uint32_t try_jobs(const struct tasks *tasks, size_t i, struct course *course,
                          uint32_t *tried)
 {
-    uint32_t T = tasks->T[i], D = tasks->D[i], C = tasks->C[i];
+    uint32_t T = tasks->T[i];
     uint32_t released = 0; /* q * T */
     uint32_t done = 1, largest = 0, answer = 0;
 
-    for (; settle(tasks, released + D, course); done++) {
+    for (; settle(tasks, released + tasks->D[i], course); done++) {
         uint32_t response = course->window - released;
 
         if (response > largest)
@@ -96,7 +99,7 @@ static uint32_t try_jobs(const struct tasks *tasks, size_t i, struct course *cou
             break;
         }
         released += T;
-        add_job(course, C);
+        add_job(course, tasks->C[i]);
     }
     *tried = done;
     return answer;
@@ -110,12 +113,15 @@ static uint32_t respond(const struct tasks *tasks, size_t i, size_t end, uint32_
     uint32_t marks[MOST_TASKS + 1];
     struct course course = {end, start, least, look_ahead(least), once, marks};
 
-    *tried = 1;
-    if (start > tasks->D[i])
+    if (start > tasks->D[i]) {
+        *tried = 1;
         return 0;
-    /* No mark is passed, the task's own neither: so the window is within T, and q = 0 ends it. */
-    if (start + RAISE <= least)
+    }
+    /* No task's mark is passed, that of task i neither: so the window is within T. */
+    if (start + RAISE <= least) {
+        *tried = 1;
         return start;
+    }
     set_first(tasks, i, end, marks);
     return try_jobs(tasks, i, &course, tried);
 }

@@ -1,5 +1,6 @@
 /* plain_table.h: reading a table in plain C, decoded once into arrays. It is compiled into each of
- * plain.c, plain_own_cost.c, plain_past.c, plain_play.c and plain_claims.c, as if each stood alone. */
+ * plain.c, plain_own_cost.c, plain_past.c, plain_play.c and plain_claims.c, as if each stood
+ * alone. */
 #ifndef PLAIN_TABLE_H
 #define PLAIN_TABLE_H
 
@@ -31,8 +32,8 @@ enum {
     LENGTH_AT = 2
 };
 
-/* How many periods a deadline may span; plain_past.c has defined it by now. (It is no argument of
- * read_table, so that the files in which it is 1 are compiled as if there were nothing else.) */
+/* How many periods a deadline may span: 1, or what plain_past.c has said before (document 02, L8).
+ * (As an argument of read_table it would change what gcc makes of the files in which it is 1.) */
 #ifndef SPAN
 #define SPAN 1
 #endif

@@ -7,12 +7,13 @@
  * at once and several tasks may share a priority, whole ticks, and sporadic tasks: their jobs come
  * at least a period apart. The engine comes to the same answers, for the tables that it takes, by
  * playing the worst case tick by tick. The checker of claims is given response times that somebody
- * claims, and says whether they hold. docs/SPECIFICATION.md has all the rules and terms.
+ * claims, and says whether they hold. The second analysis is for tables in which a deadline may be
+ * longer than the task's period. docs/SPECIFICATION.md has all the rules and terms.
  *
  * ulmerascio_analyse is in libfirmware.a, ulmerascio_analyse_from_own_cost in libmarking.a,
- * ulmerascio_play in libplayer.a and ulmerascio_check_claims in libclaims.a, each made by
- * "rt staticlib" and the library's name; none of them needs another, and a program may link them
- * all.
+ * ulmerascio_play in libplayer.a, ulmerascio_check_claims in libclaims.a and
+ * ulmerascio_analyse_past_period in liboverlaps.a, each made by "rt staticlib" and the library's
+ * name; none of them needs another, and a program may link them all.
  */
 #ifndef ULMERASCIO_H
 #define ULMERASCIO_H
@@ -30,7 +31,10 @@ extern "C" {
  * version 2, whose records have an earliest and a latest delay in place of J. A version 1 table is
  * read as one with earliest delay 0 and latest delay J.
  *
- * A record has a priority, a period T, a cost C, a deadline D, and the jitter or the delays.
+ * A record has a priority, a period T, a cost C, a deadline D, and the jitter or the delays. T is
+ * the least number of ticks between two jobs of the task, C the most processor time that a job
+ * takes, and D the number of ticks within which a job is to be done. T and C are 1 to 1,000,000,
+ * and D is 1 to T. For ulmerascio_analyse_past_period alone D is 1 to 4T, and at most 1,000,000.
  *
  * A larger priority is more urgent. Priorities may repeat from one record to the next, but not
  * rise. Of jobs of one priority the one that was released first is served first, and of those
@@ -53,11 +57,14 @@ enum ulmerascio_refusal_number {
                                       * above the latest */
     ULMERASCIO_REFUSED_PRIORITY = 6, /* priority 0, or above that of the record before */
     ULMERASCIO_REFUSED_ROW = 7,      /* a section row breaks a rule */
-    ULMERASCIO_REFUSED_SLICES = 8,   /* a slice for answers or rounds has fewer than n words */
+    ULMERASCIO_REFUSED_SLICES = 8,   /* a slice for answers, rounds or tried has fewer than n
+                                      * words */
     ULMERASCIO_REFUSED_NOT_PLAYABLE = 9, /* given by ulmerascio_play alone: some jitter or delay is
                                       * not 0, there is a row, or two tasks have one priority */
-    ULMERASCIO_REFUSED_CLAIMS = 10   /* given by ulmerascio_check_claims alone: there are fewer or
+    ULMERASCIO_REFUSED_CLAIMS = 10,  /* given by ulmerascio_check_claims alone: there are fewer or
                                       * more claims than n */
+    ULMERASCIO_REFUSED_DELAYS = 11   /* given by ulmerascio_analyse_past_period alone: some jitter
+                                      * or delay is not 0 */
 };
 
 /* Where it was refused. The place of refusals 3, 5, 6 and 7 is the offset, from the table's first
@@ -73,7 +80,7 @@ enum ulmerascio_refusal_number {
  *     6             t, where the priority stands; it is tested after the numbers of its record
  *     7             r for the task's place, r + 1 for the semaphore, r + 2 for the length, tested
  *                   in this order; then r if the row does not rise above the one before
- *     8, 9, 10      0
+ *     8 to 11       0
  */
 
 /* Analyses the table of table_len bytes at table.
@@ -182,16 +189,89 @@ uint64_t ulmerascio_play(const uint8_t *table, size_t table_len,
 uint64_t ulmerascio_check_claims(const uint8_t *table, size_t table_len,
                                  const uint32_t *claims, size_t claims_len);
 
-/* Of what the analysis and the engine return: 1 if every task meets its deadline, else 0. */
+/* The answer of an open task: nothing is decided about it. */
+#define ULMERASCIO_OPEN 4294967295u
+
+/* Analyses the table of table_len bytes at table, in which a deadline D may be longer than the
+ * period T: up to 4T, and at most 1,000,000. A job of such a task may still be waiting or at work
+ * when the task's next job is released; then the next one has to wait for it, and may take longer
+ * than the first.
+ *
+ * The verdict is packed as above:
+ *
+ *     code 0               every task has an answer within its deadline; the place is 0
+ *     code 1 to 8, or 11   the table is refused, with that number and at that place of the lists
+ *                          above
+ *     code 254             open; the place is the number of the first task that is late or open,
+ *                          from 0, and that task is open
+ *     code 255             late; the same, but that task is late
+ *
+ * Load a table only if the code is 0.
+ *
+ * If the table is not refused, and n is its number of tasks, words 0 to n - 1 of answers get the
+ * tasks' longest response times in ticks, 0 for a task that is late and ULMERASCIO_OPEN for one
+ * that is open, and words 0 to n - 1 of tried get how many of each task's jobs were looked at.
+ * Later words of both slices stay as they were. If the table is refused, no word of either slice is
+ * changed.
+ *
+ * How an answer is found: let jobs 0, 1, 2 and so on of a task be released at ticks 0, T, 2T and so
+ * on, and every other task as often as it can be. Job q is then taken to end at tick w, the
+ * smallest whole number of at least 1 that is equal to
+ *
+ *     B + (1 + q)C, and for every other task that is at least as urgent its cost times w / P
+ *     rounded up, where P is that task's period and B the blocking of the task itself, as above.
+ *
+ * Its response time is R = w - qT. The jobs are looked at one after the other, from job 0 on:
+ *
+ *     late      If R is above D, or there is no such w, the task is late: not shown to meet its
+ *               deadline. The answer is 0.
+ *     answered  Else, if R is at most T, the job is done when the next one is released, and no
+ *               further job is looked at. The answer is the largest R of the jobs looked at.
+ *     open      Else the next job is looked at. But if 64 jobs in a row were each in time for their
+ *               deadline and not done when the next one was released, nothing is decided: the task
+ *               is open, and the answer is ULMERASCIO_OPEN. Do not load such a table.
+ *
+ * The number tried counts the last job looked at too: it is 1 to 64, and 64 for an open task.
+ *
+ * For example, let T, C and D be 20, 10 and 20 for the more urgent of two tasks and 10, 5 and 20
+ * for the other. The answers are 10 and 15, and the numbers tried 1 and 2: job 0 of the second task
+ * takes 15 ticks, and job 1, which is released at tick 10, ends at tick 20 and takes 10.
+ *
+ * Refusals 1 to 8 and their places are as above, but that 5 allows the longer D and that 8 is about
+ * answers and tried. Then a table with a jitter or delay that is not 0, even if it is constant, is
+ * refused with 11. Rows are taken, and so are tasks that share a priority.
+ *
+ * What is proved: for every table the verdict and every word are what is said here. Where no D is
+ * above T, the verdict and the answers are those of ulmerascio_analyse, and what is said there of
+ * jobs holds here too. What is not proved: in a table with a D above T, that no job takes longer
+ * than its task's answer, or that some job can take that long. There the answers are those of the
+ * equation above, the usual one for such deadlines, and no more than that is claimed.
+ *
+ * A call takes longer the more jobs are tried. What is said above of lengths and pointers holds
+ * here too, with tried and tried_len for rounds and rounds_len.
+ */
+uint64_t ulmerascio_analyse_past_period(const uint8_t *table, size_t table_len,
+                                        uint32_t *answers, size_t answers_len,
+                                        uint32_t *tried, size_t tried_len);
+
+/* Of what both analyses and the engine return: 1 if every task meets its deadline, else 0. */
 static inline int ulmerascio_is_schedulable(uint64_t verdict)
 {
     return verdict >> 32 == 0;
 }
 
-/* Of the same: 1 if some task is not shown to meet its deadline, else 0. */
+/* Of the same: 1 if some task is not shown to meet its deadline, and the first such task is late;
+ * else 0. */
 static inline int ulmerascio_is_late(uint64_t verdict)
 {
     return verdict >> 32 == 255;
+}
+
+/* Of what ulmerascio_analyse_past_period returns: 1 if some task is not shown to meet its deadline,
+ * and the first such task is open; else 0. */
+static inline int ulmerascio_is_open(uint64_t verdict)
+{
+    return verdict >> 32 == 254;
 }
 
 /* Of what the checker of claims returns: 1 if every claim passes, else 0. */
@@ -209,17 +289,18 @@ static inline int ulmerascio_is_fail(uint64_t verdict)
 /* 1 if the table or the list of claims was refused, else 0. */
 static inline int ulmerascio_is_refused(uint64_t verdict)
 {
-    return verdict >> 32 >= 1 && verdict >> 32 <= 10;
+    return verdict >> 32 >= 1 && verdict >> 32 <= 11;
 }
 
-/* The number of the refusal, 1 to 10, or 0 if nothing was refused. */
+/* The number of the refusal, 1 to 11, or 0 if nothing was refused. */
 static inline int ulmerascio_refusal(uint64_t verdict)
 {
     return ulmerascio_is_refused(verdict) ? (int)(verdict >> 32) : 0;
 }
 
-/* The place of a refusal, as listed above, or the number of the first late task, or of the first
- * whose claim fails, counted from 0; 0 if the table is schedulable or every claim passes. */
+/* The place of a refusal, as listed above, or the number of the first task that is late or open, or
+ * of the first whose claim fails, counted from 0; 0 if the table is schedulable or every claim
+ * passes. */
 static inline uint32_t ulmerascio_place(uint64_t verdict)
 {
     return (uint32_t)(verdict & 0xFFFFFFFFu);
