@@ -1,9 +1,11 @@
 /* test_firmware TABLES CLAIMS: calls the library through its C header and compares it, word by
- * word, with the plain C analysis, the plain C engine and the plain C checker of claims
+ * word, with the plain C analyses, the plain C engine and the plain C checker of claims
  * (bench/plain.h) on every entry of two files that "tests/reference.py make" wrote, the analysis
- * from both starts; and the engine and the checker with the analysis. The places of refusals and
- * some rounds are also compared with what was worked out by hand, and so are tables in which tasks
- * share a priority, and some claims. */
+ * from both starts; and the engine, the checker and the second analysis with the analysis. The
+ * second analysis gets every table that the analysis gets, and the tables of the first file with
+ * longer deadlines too. The places of refusals and some rounds are also compared with what was
+ * worked out by hand, and so are tables in which tasks share a priority, some claims, and tables
+ * with deadlines past the period. */
 #include <stdio.h>
 #include <stdlib.h>
 #include <string.h>
@@ -22,7 +24,9 @@ enum {
     FIFTH_TABLE = 4,
     LATE_TABLE = 10,
     SECTIONS_TABLE = 12,
-    MANY_ROUNDS = 1000
+    MANY_ROUNDS = 1000,
+    MOST_TRIED = 64,
+    MOST_TICKS = 1000000
 };
 
 static const uint32_t filler = 0xA5A5A5A5u;
@@ -30,15 +34,18 @@ static const uint32_t filler = 0xA5A5A5A5u;
 typedef uint64_t analysis(const uint8_t *, size_t, uint32_t *, size_t, uint32_t *, size_t);
 typedef uint64_t engine(const uint8_t *, size_t, uint32_t *, size_t);
 
-/* A start of the rounds (document 02, L5) and the analyses from it; every cost is the default. */
-struct start {
+/* An analysis, ours and plain C's: from one of the two starts of the rounds (document 02, L5), of
+ * which every cost is the default; and the second one (L8), which has the q tried for rounds. */
+struct pair {
     const char *name;
     analysis *ours, *plain;
 };
 
-static const struct start every_cost = {"every cost", ulmerascio_analyse, plain_analyse};
-static const struct start own_cost = {"own cost", ulmerascio_analyse_from_own_cost,
-                                      plain_analyse_from_own_cost};
+static const struct pair every_cost = {"from every cost", ulmerascio_analyse, plain_analyse};
+static const struct pair own_cost = {"from own cost", ulmerascio_analyse_from_own_cost,
+                                     plain_analyse_from_own_cost};
+static const struct pair past_period = {"past the period", ulmerascio_analyse_past_period,
+                                        plain_analyse_past_period};
 
 struct table {
     const uint8_t *bytes;
@@ -52,6 +59,7 @@ struct outcome {
 };
 
 static unsigned long calls, plays, taken, lists, passed;
+static unsigned long overlaps, overlaps_taken, repeated, undecided; /* of the second analysis */
 
 static void call(analysis *analyse, struct table table, size_t answers_len, size_t rounds_len,
                  struct outcome *outcome)
@@ -88,29 +96,65 @@ static void check_stayed(const char *slice, const uint32_t *words, size_t writte
 static int helpers_agree(uint64_t verdict)
 {
     uint64_t code = verdict / 4294967296u, place = verdict % 4294967296u;
-    int refused = code >= 1 && code <= 10;
+    int refused = code >= 1 && code <= 11;
 
     return ulmerascio_is_schedulable(verdict) == (code == 0)
         && ulmerascio_is_late(verdict) == (code == 255)
+        && ulmerascio_is_open(verdict) == (code == 254)
         && ulmerascio_is_pass(verdict) == (code == 0)
         && ulmerascio_is_fail(verdict) == (code == 255)
         && ulmerascio_is_refused(verdict) == refused
         && ulmerascio_refusal(verdict) == (refused ? (int)code : 0)
         && ulmerascio_place(verdict) == place
-        && (code == 0 || code == 255 || refused);
+        && (code == 0 || code == 254 || code == 255 || refused);
 }
 
-/* Can the place be that of such a verdict? A late task, or one whose claim fails, has a number.
+/* Where the bytes of a table stand; a record has 17 bytes in version 1 and 21 in version 2 (L4). */
+static size_t record_at(uint8_t version, size_t i)
+{
+    return 5 + (version == 2 ? 21 : 17) * i;
+}
+
+static uint32_t word_at(const uint8_t *at)
+{
+    return (uint32_t)at[0] << 24 | (uint32_t)at[1] << 16 | (uint32_t)at[2] << 8 | at[3];
+}
+
+static uint32_t period_at(struct table table, size_t i)
+{
+    return word_at(table.bytes + record_at(table.bytes[0], i) + 1);
+}
+
+static uint32_t deadline_at(struct table table, size_t i)
+{
+    return word_at(table.bytes + record_at(table.bytes[0], i) + 9);
+}
+
+/* The latest delay, or J, ends a record. */
+static uint32_t latest_at(struct table table, size_t i)
+{
+    return word_at(table.bytes + record_at(table.bytes[0], i + 1) - 4);
+}
+
+/* n, or 0 where it is missing. */
+static size_t tasks_of(struct table table)
+{
+    return table.length > 3 ? table.bytes[3] : 0;
+}
+
+/* Can the place be that of such a verdict? A late or open task, or one whose claim fails, has a
+ * number.
  * Refusals 3, 5, 6 and 7 point at the first byte of a field (document 02, L3): n or m; T, C, D or
  * J, at 1, 5, 9 or 13 in a record, and in version 2 (L4) a delay at 13 or 17; the priority, at 0 in
  * it; one of the three at 0, 1 and 2 in a row. */
 static int place_fits(struct table table, uint64_t verdict)
 {
-    size_t place = ulmerascio_place(verdict), n = table.length > 3 ? table.bytes[3] : 0;
-    size_t size = table.length > 0 && table.bytes[0] == 2 ? 21 : 17;
-    size_t records = 5, rows = records + size * n, in_record = (place - records) % size;
+    size_t place = ulmerascio_place(verdict), n = tasks_of(table);
+    uint8_t version = table.length > 0 ? table.bytes[0] : 1;
+    size_t records = record_at(version, 0), rows = record_at(version, n);
+    size_t in_record = (place - records) % (record_at(version, 1) - records);
 
-    if (ulmerascio_is_late(verdict))
+    if (ulmerascio_is_late(verdict) || ulmerascio_is_open(verdict))
         return place < n;
     switch (ulmerascio_refusal(verdict)) {
     case 3:
@@ -138,20 +182,20 @@ static void check_verdict(struct table table, uint64_t verdict)
     }
 }
 
-/* Calls both analyses from a start; gives their outcome. */
-static struct outcome compare_from(const struct start *start, const char *what, size_t number,
+/* Calls both analyses of a pair; gives their outcome. */
+static struct outcome compare_pair(const struct pair *pair, const char *what, size_t number,
                                    struct table table, size_t answers_len, size_t rounds_len)
 {
     struct outcome ours, plain;
     size_t written;
 
-    call(start->ours, table, answers_len, rounds_len, &ours);
-    call(start->plain, table, answers_len, rounds_len, &plain);
+    call(pair->ours, table, answers_len, rounds_len, &ours);
+    call(pair->plain, table, answers_len, rounds_len, &plain);
     if (ours.verdict != plain.verdict || memcmp(ours.answers, plain.answers, sizeof ours.answers)
         || memcmp(ours.rounds, plain.rounds, sizeof ours.rounds)) {
-        printf("c: %s %lu, %lu bytes, slices of %lu and %lu words, from %s: verdict %llx, plain "
+        printf("c: %s %lu, %lu bytes, slices of %lu and %lu words, %s: verdict %llx, plain "
                "%llx\n", what, (unsigned long)number, (unsigned long)table.length,
-               (unsigned long)answers_len, (unsigned long)rounds_len, start->name,
+               (unsigned long)answers_len, (unsigned long)rounds_len, pair->name,
                (unsigned long long)ours.verdict, (unsigned long long)plain.verdict);
         compare_slice("answers", ours.answers, plain.answers);
         compare_slice("rounds", ours.rounds, plain.rounds);
@@ -161,7 +205,6 @@ static struct outcome compare_from(const struct start *start, const char *what, 
     written = ulmerascio_is_refused(ours.verdict) ? 0 : table.bytes[3];
     check_stayed("answers", ours.answers, written);
     check_stayed("rounds", ours.rounds, written);
-    calls++;
     return ours;
 }
 
@@ -184,15 +227,111 @@ static void compare_starts(const char *what, size_t number, const struct outcome
     }
 }
 
-/* From both starts; gives the outcome from the default one. */
+/* Can these be the words of task i from the second analysis? With one q the answer is within the
+ * period, with more it is past it; an open task has tried all. */
+static int overlap_fits(struct table table, size_t i, uint32_t answer, uint32_t tried)
+{
+    uint32_t T = period_at(table, i), D = deadline_at(table, i);
+
+    if (tried < 1 || tried > MOST_TRIED || (tried > 1 && D <= T))
+        return 0;
+    if (answer == ULMERASCIO_OPEN)
+        return tried == MOST_TRIED;
+    return answer == 0 || (answer <= D && (answer > T) == (tried > 1));
+}
+
+/* The verdict of the first task that is late or open, by its word. */
+static uint64_t first_without(const uint32_t *answers, size_t n)
+{
+    for (size_t i = 0; i < n; i++)
+        if (answers[i] == 0 || answers[i] == ULMERASCIO_OPEN)
+            return (uint64_t)(answers[i] ? 254 : 255) << 32 | i;
+    return 0;
+}
+
+/* What document 02's L8 says of one outcome of the second analysis, said without plain C. */
+static int overlaps_fit(struct table table, const struct outcome *past)
+{
+    const uint32_t *answers = past->answers + GUARD, *tried = past->rounds + GUARD;
+    size_t n = tasks_of(table);
+
+    if (ulmerascio_is_refused(past->verdict))
+        return 1;
+    overlaps_taken++;
+    for (size_t i = 0; i < n; i++) {
+        if (!overlap_fits(table, i, answers[i], tried[i]) || latest_at(table, i))
+            return 0;
+        repeated += tried[i] > 1;
+        undecided += answers[i] == ULMERASCIO_OPEN;
+    }
+    return past->verdict == first_without(answers, n);
+}
+
+static uint64_t deadline_refused(struct table table, size_t i)
+{
+    return ((uint64_t)ULMERASCIO_REFUSED_NUMBERS << 32) + record_at(table.bytes[0], i) + 9;
+}
+
+/* Does it fit the outcome of the analysis? Where each D is at most T, verdict and answers are the
+ * same, and one q is tried for each task; but a table with a delay is refused with 11. Refusals are
+ * the same, but for that of a D: where the second analysis takes the table, the analysis refuses
+ * the first D above T. */
+static int analyses_fit(struct table table, const struct outcome *past,
+                        const struct outcome *analysed)
+{
+    size_t n = tasks_of(table);
+
+    for (size_t i = 0; i < n; i++) {
+        if (!ulmerascio_is_refused(past->verdict) && deadline_at(table, i) > period_at(table, i))
+            return analysed->verdict == deadline_refused(table, i);
+        if (analysed->verdict == deadline_refused(table, i))
+            return ulmerascio_is_refused(past->verdict);
+    }
+    if (ulmerascio_is_refused(analysed->verdict))
+        return past->verdict == analysed->verdict;
+    for (size_t i = 0; i < n; i++)
+        if (latest_at(table, i))
+            return past->verdict == (uint64_t)ULMERASCIO_REFUSED_DELAYS << 32;
+    for (size_t i = 0; i < n; i++)
+        if (past->rounds[GUARD + i] != 1)
+            return 0;
+    return past->verdict == analysed->verdict
+        && !memcmp(past->answers, analysed->answers, sizeof past->answers);
+}
+
+/* Calls both second analyses; gives their outcome. */
+static struct outcome compare_past(const char *what, size_t number, struct table table,
+                                   size_t answers_len, size_t tried_len)
+{
+    struct outcome past = compare_pair(&past_period, what, number, table, answers_len, tried_len);
+
+    if (!overlaps_fit(table, &past)) {
+        printf("c: %s %lu past the period: words that do not fit verdict %llx or each other\n",
+               what, (unsigned long)number, (unsigned long long)past.verdict);
+        exit(1);
+    }
+    overlaps++;
+    return past;
+}
+
+/* From both starts, and the second analysis; gives the outcome from the default start. */
 static struct outcome compare(const char *what, size_t number, struct table table,
                               size_t answers_len, size_t rounds_len)
 {
-    struct outcome every, own;
+    struct outcome every, own, past;
 
-    every = compare_from(&every_cost, what, number, table, answers_len, rounds_len);
-    own = compare_from(&own_cost, what, number, table, answers_len, rounds_len);
+    every = compare_pair(&every_cost, what, number, table, answers_len, rounds_len);
+    own = compare_pair(&own_cost, what, number, table, answers_len, rounds_len);
     compare_starts(what, number, &every, &own);
+    calls += 2;
+    past = compare_past(what, number, table, answers_len, rounds_len);
+    if (!analyses_fit(table, &past, &every)) {
+        printf("c: %s %lu: the second analysis does not fit: verdicts %llx and %llx\n", what,
+               (unsigned long)number, (unsigned long long)past.verdict,
+               (unsigned long long)every.verdict);
+        compare_slice("answers", past.answers, every.answers);
+        exit(1);
+    }
     return every;
 }
 
@@ -302,7 +441,7 @@ static uint64_t compare_claims(const char *what, size_t number, struct table tab
     if (ours != plain)
         fail_claims(what, number, claims, ours, "plain", plain);
     check_verdict(table, ours);
-    if (!claims_fit(ours, claims, table.length > 3 ? table.bytes[3] : 0, analysed))
+    if (!claims_fit(ours, claims, tasks_of(table), analysed))
         fail_claims(what, number, claims, ours, "the analysis", analysed->verdict);
     lists++;
     passed += (unsigned long)ulmerascio_is_pass(ours);
@@ -330,13 +469,6 @@ static uint32_t claim_of(enum kind kind, uint32_t answer, uint32_t deadline)
     default:
         return UINT32_MAX;
     }
-}
-
-static uint32_t deadline_at(struct table table, size_t i)
-{
-    const uint8_t *at = table.bytes + 5 + (table.bytes[0] == 2 ? 21 : 17) * i + 9;
-
-    return (uint32_t)at[0] << 24 | (uint32_t)at[1] << 16 | (uint32_t)at[2] << 8 | at[3];
 }
 
 /* Each kind for all n tasks; then for one task alone, where the others have their answers. */
@@ -376,7 +508,7 @@ static void try_counts(const char *what, size_t number, struct table table, size
 
 static void try_claims(const char *what, size_t number, struct table table)
 {
-    size_t n = table.length > 3 ? table.bytes[3] : 0;
+    size_t n = tasks_of(table);
     struct outcome analysed;
 
     call(ulmerascio_analyse, table, LONGEST_SLICE, LONGEST_SLICE, &analysed);
@@ -438,15 +570,15 @@ static const struct counted worked_rounds[] = {
     {WORKED_TABLES - 1, {1, 999999}, {1, 1000000}},
 };
 
-static void expect_rounds(const struct start *start, struct table table, const uint32_t *wanted)
+static void expect_rounds(const struct pair *pair, struct table table, const uint32_t *wanted)
 {
     size_t n = table.bytes[3];
     struct outcome outcome;
 
-    call(start->ours, table, n, n, &outcome);
+    call(pair->ours, table, n, n, &outcome);
     for (size_t i = 0; i < n; i++)
         if (outcome.rounds[GUARD + i] != wanted[i]) {
-            printf("c: rounds from %s, worked out by hand:\n", start->name);
+            printf("c: rounds %s, worked out by hand:\n", pair->name);
             fail_word("rounds", GUARD + i, outcome.rounds[GUARD + i], wanted[i]);
         }
 }
@@ -585,6 +717,33 @@ static void try_places(const char *what, struct table table, const struct fault 
     }
 }
 
+static uint8_t *write_word(uint8_t *at, uint32_t word)
+{
+    for (int shift = 24; shift >= 0; shift -= 8)
+        *at++ = (uint8_t)(word >> shift);
+    return at;
+}
+
+/* The same table without delays, and with deadlines of 1 to 4 periods, for the second analysis: the
+ * shift says which task has which. */
+static void try_longer_deadlines(const char *what, size_t number, struct table table, size_t shift)
+{
+    uint8_t *bytes = copy_bytes(table.bytes, table.length, table.length);
+    size_t n = bytes[3];
+
+    for (size_t i = 0; i < n; i++) {
+        uint8_t *end = bytes + record_at(bytes[0], i + 1);
+        uint32_t deadline = period_at(table, i) * (uint32_t)((i + shift) % 4 + 1);
+        uint8_t *at = write_word(bytes + record_at(bytes[0], i) + 9,
+                                 deadline < MOST_TICKS ? deadline : MOST_TICKS);
+
+        while (at < end)
+            *at++ = 0;
+    }
+    compare_past(what, number, (struct table){bytes, table.length}, n, n);
+    free(bytes);
+}
+
 /* A lent length that a 16-bit word cuts to the stated one is still not equal to it. */
 static void try_far_too_long(size_t number, struct table table)
 {
@@ -620,13 +779,6 @@ static void try_delays(void)
                delay_faults, sizeof delay_faults / sizeof delay_faults[0]);
 }
 
-static uint8_t *write_word(uint8_t *at, uint32_t word)
-{
-    for (int shift = 24; shift >= 0; shift -= 8)
-        *at++ = (uint8_t)(word >> shift);
-    return at;
-}
-
 /* A task without delays. */
 struct task {
     uint8_t priority;
@@ -636,7 +788,7 @@ struct task {
 /* Writes a table of such tasks, without rows; gives its length. */
 static size_t write_table(uint8_t *at, uint8_t version, const struct task *tasks, size_t n)
 {
-    size_t length = 5 + (version == 2 ? 21 : 17) * n;
+    size_t length = record_at(version, n);
 
     *at++ = version;
     *at++ = (uint8_t)(length / 256);
@@ -675,6 +827,22 @@ static const struct grouped grouped_tables[] = {
      0, {3, 3, 3, 7}, {1, 1, 1, 2}, {2, 2, 2, 3}},
 };
 
+static void expect_verdict(const char *what, size_t number, uint64_t verdict, uint64_t wanted)
+{
+    if (verdict != wanted) {
+        printf("c: %s %lu: verdict %llx, not %llx\n", what, (unsigned long)number,
+               (unsigned long long)verdict, (unsigned long long)wanted);
+        exit(1);
+    }
+}
+
+static void expect_words(const char *slice, const uint32_t *words, const uint32_t *wanted, size_t n)
+{
+    for (size_t i = GUARD; i < GUARD + n; i++)
+        if (words[i] != wanted[i - GUARD])
+            fail_word(slice, i, words[i], wanted[i - GUARD]);
+}
+
 /* The engine, ours and plain C's, is to give this verdict. */
 static void expect_played(const char *what, size_t number, struct table table, size_t answers_len,
                           uint64_t wanted)
@@ -697,14 +865,8 @@ static void try_grouped(size_t number, const struct grouped *grouped, uint8_t ve
     struct table table = {bytes, write_table(bytes, version, grouped->tasks, n)};
     struct outcome outcome = compare(what, number, table, n, n);
 
-    if (outcome.verdict != grouped->verdict) {
-        printf("c: %s %lu: verdict %llx, not %llx\n", what, (unsigned long)number,
-               (unsigned long long)outcome.verdict, (unsigned long long)grouped->verdict);
-        exit(1);
-    }
-    for (size_t i = 0; i < n; i++)
-        if (outcome.answers[GUARD + i] != grouped->answers[i])
-            fail_word("answers", GUARD + i, outcome.answers[GUARD + i], grouped->answers[i]);
+    expect_verdict(what, number, outcome.verdict, grouped->verdict);
+    expect_words("answers", outcome.answers, grouped->answers, n);
     expect_rounds(&every_cost, table, grouped->rounds);
     expect_rounds(&own_cost, table, grouped->own_rounds);
     expect_played(what, number, table, n, (uint64_t)9 << 32);
@@ -720,7 +882,7 @@ static void try_neighbours(size_t place, uint8_t version)
     uint8_t bytes[5 + 32 * 21];
     struct task tasks[32];
     struct table table;
-    size_t at = 5 + (version == 2 ? 21 : 17) * place;
+    size_t at = record_at(version, place);
 
     for (size_t i = 0; i < 32; i++)
         tasks[i] = (struct task){(uint8_t)(100 - i), 1000 + (uint32_t)i, 1, 1000};
@@ -748,6 +910,120 @@ static void try_groups(void)
         for (size_t place = 1; place < 32; place++)
             try_neighbours(place, version);
     }
+}
+
+/* Tables for the second analysis (document 02, L8), and what they get, worked out by hand. The
+ * second task holds a semaphore of the first for that many ticks; with 0 there are no rows. */
+struct overlapping {
+    size_t n;
+    struct task tasks[2];
+    uint32_t held;
+    uint64_t verdict;
+    uint32_t answers[2], tried[2];
+};
+
+#define OPEN_AT(place) (((uint64_t)254 << 32) + (place))
+#define LATE_AT(place) (((uint64_t)255 << 32) + (place))
+#define DEADLINE_REFUSED (((uint64_t)5 << 32) + 14) /* that of the first task */
+
+static const struct overlapping overlapping_tables[] = {
+    /* "The example in 001 gives 10 and 15, its process 2 standing first." */
+    {2, {{2, 20, 10, 20}, {1, 10, 5, 20}}, 0, 0, {10, 15}, {1, 2}},
+    {1, {{1, 10, 14, 15}}, 0, LATE_AT(0), {0}, {2}},
+    {1, {{1, 10, 14, 13}}, 0, LATE_AT(0), {0}, {1}},
+    {1, {{1, 10, 6, 5}}, 0, LATE_AT(0), {0}, {1}},
+    {1, {{1, 10, 10, 10}}, 0, 0, {10}, {1}},
+    /* R is 33 + q */
+    {1, {{1, 32, 33, 128}}, 0, OPEN_AT(0), {ULMERASCIO_OPEN}, {64}},
+    /* R is 23 + q, and above 85 at the last q */
+    {1, {{1, 22, 23, 85}}, 0, LATE_AT(0), {0}, {64}},
+    {1, {{1, 22, 23, 86}}, 0, OPEN_AT(0), {ULMERASCIO_OPEN}, {64}},
+    /* R is 2 for every q */
+    {2, {{2, 1, 1, 4}, {1, 8, 1, 8}}, 1, OPEN_AT(0), {ULMERASCIO_OPEN, 0}, {64, 1}},
+    /* R is 63 + 64 - q, and T at the last q; for the second task w is 65 + 63 * 65 */
+    {2, {{2, 64, 63, 256}, {1, 1000000, 65, 1000000}}, 64, 0, {127, 4160}, {64, 1}},
+    {2, {{2, 64, 63, 256}, {1, 1000000, 65, 1000000}}, 65, OPEN_AT(0), {ULMERASCIO_OPEN, 4160},
+     {64, 1}},
+    /* one priority */
+    {2, {{1, 4, 2, 16}, {1, 6, 3, 24}}, 0, 0, {6, 7}, {3, 2}},
+    {2, {{1, 4, 2, 5}, {1, 6, 3, 6}}, 0, LATE_AT(0), {0, 0}, {2, 1}},
+    /* the second is open: the verdict says it only where the first is not late */
+    {2, {{2, 100, 50, 49}, {1, 200, 101, 800}}, 0, LATE_AT(0), {0, ULMERASCIO_OPEN}, {1, 64}},
+    {2, {{2, 100, 50, 50}, {1, 200, 101, 800}}, 0, OPEN_AT(1), {50, ULMERASCIO_OPEN}, {1, 64}},
+    /* how long a deadline may be */
+    {1, {{1, 1, 1, 4}}, 0, 0, {1}, {1}},
+    {1, {{1, 1, 1, 5}}, 0, DEADLINE_REFUSED, {0}, {0}},
+    {1, {{1, 1, 1, 0}}, 0, DEADLINE_REFUSED, {0}, {0}},
+    {1, {{1, 249999, 1, 999996}}, 0, 0, {1}, {1}},
+    {1, {{1, 249999, 1, 999997}}, 0, DEADLINE_REFUSED, {0}, {0}},
+    {1, {{1, 250000, 1, 1000000}}, 0, 0, {1}, {1}},
+    {1, {{1, 250000, 1, 1000001}}, 0, DEADLINE_REFUSED, {0}, {0}},
+    {1, {{1, 1000000, 1000000, 1000000}}, 0, 0, {1000000}, {1}},
+    {1, {{1, 1000000, 1, 1000001}}, 0, DEADLINE_REFUSED, {0}, {0}},
+    {1, {{1, 1000000, 1, 4000000}}, 0, DEADLINE_REFUSED, {0}, {0}},
+    {1, {{1, 1000000, 1, 4294967295u}}, 0, DEADLINE_REFUSED, {0}, {0}},
+};
+
+/* Adds two rows for semaphore 1: of the first task, for a tick, and of the second. */
+static size_t add_rows(uint8_t *bytes, size_t length, uint32_t held)
+{
+    uint8_t *at = bytes + length;
+
+    for (uint8_t place = 0; place < 2; place++) {
+        *at++ = place;
+        *at++ = 1;
+        at = write_word(at, place ? held : 1);
+    }
+    bytes[2] = (uint8_t)(at - bytes);
+    bytes[4] = 2;
+    return bytes[2];
+}
+
+/* The second analysis is to give this verdict, and refusal 8 where a slice has no room; but a
+ * deadline is refused before that. */
+static void expect_past(const char *what, size_t number, struct table table, uint64_t wanted)
+{
+    size_t n = table.bytes[3], lengths[] = {0, n - 1, n, n + 1, LONGEST_SLICE};
+
+    for (size_t i = 0; i < 5; i++)
+        for (size_t j = 0; j < 5; j++) {
+            int room = lengths[i] >= n && lengths[j] >= n;
+            struct outcome past = compare_past(what, number, table, lengths[i], lengths[j]);
+
+            expect_verdict(what, number, past.verdict,
+                           room || wanted == DEADLINE_REFUSED ? wanted : (uint64_t)8 << 32);
+        }
+}
+
+/* At last the table gets a delay, in version 2 one that is always the same. */
+static void try_overlapping(size_t number, const struct overlapping *overlapping, uint8_t version)
+{
+    static const char what[] = "table past the period";
+    uint8_t bytes[5 + 2 * 21 + 2 * 6];
+    struct table table = {bytes, write_table(bytes, version, overlapping->tasks, overlapping->n)};
+    uint64_t wanted = overlapping->verdict;
+    struct outcome past;
+    size_t n = overlapping->n;
+
+    if (overlapping->held)
+        table.length = add_rows(bytes, table.length, overlapping->held);
+    compare(what, number, table, n, n);
+    expect_past(what, number, table, wanted);
+    call(ulmerascio_analyse_past_period, table, n, n, &past);
+    if (wanted != DEADLINE_REFUSED) {
+        expect_words("answers", past.answers, overlapping->answers, n);
+        expect_words("tried", past.rounds, overlapping->tried, n);
+    }
+    for (uint8_t delay = 0; delay < version; delay++)
+        bytes[record_at(version, n) - 4 * delay - 1] = 1;
+    expect_past(what, number, table, wanted == DEADLINE_REFUSED ? wanted : (uint64_t)11 << 32);
+}
+
+static void try_overlaps(void)
+{
+    for (uint8_t version = 1; version <= 2; version++)
+        for (size_t i = 0; i < sizeof overlapping_tables / sizeof overlapping_tables[0]; i++)
+            try_overlapping(i, &overlapping_tables[i], version);
 }
 
 /* Claims for two tasks without delays, and what they get, worked out by hand. */
@@ -838,7 +1114,7 @@ static const uint8_t *try_claims_entry(size_t number, const uint8_t *at, const u
     }
     at = table.bytes + table.length;
     for (size_t i = 0; i < claims.count; i++, at += 4)
-        words[i] = (uint32_t)at[0] << 24 | (uint32_t)at[1] << 16 | (uint32_t)at[2] << 8 | at[3];
+        words[i] = word_at(at);
     call(ulmerascio_analyse, table, LONGEST_SLICE, LONGEST_SLICE, &analysed);
     compare_claims("claims", number, table, claims, &analysed);
     return at;
@@ -957,6 +1233,9 @@ int main(int count, char **words)
         outcome = compare("entry", number, table, answers_len, rounds_len);
         compare_play("entry", number, table, answers_len);
         try_claims("entry", number, table);
+        if (!ulmerascio_is_refused(outcome.verdict))
+            for (size_t shift = 0; shift < 4; shift++)
+                try_longer_deadlines("entry with longer deadlines", number, table, shift);
         if (number < WORKED_TABLES) {
             try_slice_lengths(number, table, &outcome);
             try_rounds(number, table);
@@ -975,9 +1254,12 @@ int main(int count, char **words)
     try_groups();
     try_longest();
     try_group_sizes();
+    try_overlaps();
     try_claims_by_hand();
     try_claims_file(words[2]);
     printf("c: %lu calls agree; %lu plays, %lu of them not refused; %lu lists of claims, %lu of "
-           "them pass\n", calls, plays, taken, lists, passed);
+           "them pass; %lu calls past the period, %lu of them not refused, with %lu tasks that try "
+           "more than one q, %lu of them open\n", calls, plays, taken, lists, passed, overlaps,
+           overlaps_taken, repeated, undecided);
     return 0;
 }
