@@ -242,10 +242,11 @@ uint64_t ulmerascio_check_claims(const uint8_t *table, size_t table_len,
  * refused with 11. Rows are taken, and so are tasks that share a priority.
  *
  * What is proved: for every table the verdict and every word are what is said here. Where no D is
- * above T, the verdict and the answers are those of ulmerascio_analyse, and what is said there of
- * jobs holds here too. What is not proved: in a table with a D above T, that no job takes longer
- * than its task's answer, or that some job can take that long. There the answers are those of the
- * equation above, the usual one for such deadlines, and no more than that is claimed.
+ * above T and the table is not refused, the verdict and the answers are those of
+ * ulmerascio_analyse, and what is said there of jobs holds here too. What is not proved: in a table
+ * with a D above T, that no job takes longer than its task's answer, or that some job can take that
+ * long. There the answers are those of the equation above, the usual one for such deadlines, and no
+ * more than that is claimed.
  *
  * A call takes longer the more jobs are tried. What is said above of lengths and pointers holds
  * here too, with tried and tried_len for rounds and rounds_len.
@@ -254,7 +255,8 @@ uint64_t ulmerascio_analyse_past_period(const uint8_t *table, size_t table_len,
                                         uint32_t *answers, size_t answers_len,
                                         uint32_t *tried, size_t tried_len);
 
-/* Of what both analyses and the engine return: 1 if every task meets its deadline, else 0. */
+/* Of what both analyses and the engine return: 1 if every task has an answer within its deadline,
+ * else 0. */
 static inline int ulmerascio_is_schedulable(uint64_t verdict)
 {
     return verdict >> 32 == 0;
