@@ -38,6 +38,10 @@ noTask = record { priority = 0; period = 1; cost = 0; deadline = 1; earliest = 0
 abbrev pub taskOf : List Task → ℕ → Task
 taskOf tasks i = getD tasks i noTask
 
+-- "The first slice gets the answer, 0 for late and 4,294,967,295 for open" (SPECIFICATION 13.8; document 02, L8)
+abbrev pub openWord : ℕ
+openWord = 4294967295
+
 -- What a task asks of those that it interferes with: its cost, once for each period begun in w + spread ticks.
 pub record Load : Type 0 where
   pub period : ℕ

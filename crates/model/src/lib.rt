@@ -9,6 +9,9 @@ pub struct Priority(pub u8);
 
 pub struct Place(pub usize);
 
+// What an answer slice has for a task that is open: no response time is as long (SPECIFICATION 13.8; document 02, L8).
+pub const OPEN: u32 = 4294967295;
+
 pub fn larger(a: Ticks, b: Ticks) -> Ticks
     ensures { λ r. ⌜ r .0 ≡ max (a .0) (b .0) ⌝ }
 {

@@ -12,9 +12,10 @@ use Rattle.model.specs.Lists.{largestTo}
 use Rattle.model.proofs.Lists.{largest-low, largest-high, largest-more, largest-none}
 use Rattle.model.proofs.Search as search-laws
 use Rattle.model.proofs.Tests.{bool?, either-true, not-either}
+use Rattle.model.specs.Tables.{openWord}
 use Rattle.equation.specs.Laws.{IsSmallest}
 use Rattle.equation.proofs.Laws.{raisedNotAbove}
-use Rattle.overlaps.specs.Overlaps.{Studied, baseAt, limitAt, windowAt, responseAt, lateAt, endsAt, endsBy, endedAfter, openWord, longest, tried}
+use Rattle.overlaps.specs.Overlaps.{Studied, baseAt, limitAt, windowAt, responseAt, lateAt, endsAt, endsBy, endedAfter, longest, tried}
 use Rattle.overlaps.specs.Columns.{LongestBy}
 use Rattle.overlaps.specs.Statements.{Responds, GoesOn, GoOnBefore, LateAt, StopsAt, IsLargest, EndsWith, IsOpen, LongestRight, PastEnds}
 use Rattle.overlaps.proofs.SearchLaws.{Going, window-is, window-small, window-high, no-window, response-is, goes-on, late-by, stopped-by, open-by}

@@ -13,7 +13,7 @@ use Rattle.model.proofs.Tests.{bool?, eqb?, clash}
 use Rattle.tables.specs.Refusals.{at}
 use Rattle.overlaps.specs.declared.Found.{Found}
 use Rattle.overlaps.specs.declared.Found.the-variants.{Refused, Delayed, Schedulable, Late, Open}
-use Rattle.overlaps.specs.Overlaps.{openWord}
+use Rattle.model.specs.Tables.{openWord}
 use Rattle.overlaps.specs.Outcome.{isSchedulable, saidBy, saidAt, resultOf}
 use Rattle.overlaps.specs.Numbers.{foundPlace}
 use Rattle.overlaps.specs.Statements.{InTime, ResultRight}

@@ -11,11 +11,12 @@ use Rattle.model.specs.Choice.{pick, either}
 use Rattle.model.specs.Lists.{largestTo}
 use Rattle.model.proofs.Search as search-laws
 use Rattle.model.proofs.Tests.{either-left, either-right, either-neither}
+use Rattle.model.specs.Tables.{openWord}
 use Rattle.equation.specs.Answer.{answer}
 use Rattle.equation.specs.Laws.{IsSmallest, NotAbove}
 use Rattle.equation.proofs.Laws.{smallestMeans, answerMeans}
 use Rattle.solver.specs.Solver.{SolvedBy}
-use Rattle.overlaps.specs.Overlaps.{Studied, baseAt, limitAt, windowAt, responseAt, lateAt, endsAt, endsBy, endedAfter, openWord, wordAfter, longest, triedAfter, tried}
+use Rattle.overlaps.specs.Overlaps.{Studied, baseAt, limitAt, windowAt, responseAt, lateAt, endsAt, endsBy, endedAfter, wordAfter, longest, triedAfter, tried}
 use Rattle.overlaps.specs.Columns.{LongestBy}
 
 -- none of the q before this one ends it

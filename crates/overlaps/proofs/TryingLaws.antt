@@ -13,6 +13,7 @@ use Rattle.model.specs.Choice.{both}
 use Rattle.model.specs.Lists.{largestTo, filled}
 use Rattle.model.proofs.Tests.{both-true}
 use Rattle.model.proofs.Lists.{largest-more, largest-none}
+use Rattle.model.specs.Tables.{openWord}
 use Rattle.equation.specs.Laws.{IsSmallest, NotAbove}
 use Rattle.equation.specs.Slices.{loads, LoadsFit}
 use Rattle.equation.proofs.Laws.{raisedNotAbove}
@@ -20,7 +21,7 @@ use Rattle.solver.specs.Marks.{raise, firstMarkFor, PeriodsHigh}
 use Rattle.solver.specs.Invariant.{Right}
 use Rattle.solver.specs.Solver.{Solvable, SolvedBy, Followable, FollowedBy}
 use Rattle.solver.proofs.RoundLaws.{right-raised, solved-at-once, may-follow}
-use Rattle.overlaps.specs.Overlaps.{Studied, baseAt, limitAt, windowAt, responseAt, endsAt, openWord}
+use Rattle.overlaps.specs.Overlaps.{Studied, baseAt, limitAt, windowAt, responseAt, endsAt}
 use Rattle.overlaps.specs.Columns.{studiedFrom, StudiedFits, LongestBy, Beginnable, Searchable}
 use Rattle.overlaps.proofs.SearchLaws.{Going, window-is, start-past, solved-late, solved-found, response-is, goes-on, late-by, stopped-by, open-by}
 

@@ -10,6 +10,7 @@ use Rattle.model.specs.Choice.{pick}
 use Rattle.model.specs.Lists.{filled, largestTo}
 use Rattle.model.specs.Search.{firstOf}
 use Rattle.model.specs.declared.Place.{Place}
+use Rattle.model.specs.Tables.{openWord}
 use Rattle.tables.specs.declared.Check.{Check}
 use Rattle.tables.specs.declared.Check.the-variants as check
 use Rattle.tables.specs.Layout.{taskCount, tableOf, latestIn}
@@ -17,7 +18,7 @@ use Rattle.tables.specs.Refusals.{at}
 use Rattle.tables.specs.Checks.{tableCheckSpanning}
 use Rattle.overlaps.specs.declared.Found.{Found}
 use Rattle.overlaps.specs.declared.Found.the-variants.{Refused, Delayed, Schedulable, Late, Open}
-use Rattle.overlaps.specs.Overlaps.{openWord, longestOf, triedOf}
+use Rattle.overlaps.specs.Overlaps.{longestOf, triedOf}
 
 abbrev pub isSchedulable : Found → Bool
 isSchedulable (Refused refusal) = false

@@ -8,7 +8,7 @@ use lib.Dec.{eqb, leb}
 use Rattle.model.specs.Choice.{pick, either}
 use Rattle.model.specs.Lists.{largestTo}
 use Rattle.model.specs.Search.{firstFrom}
-use Rattle.model.specs.Tables.{Table, Load, taskOf, loadsOf}
+use Rattle.model.specs.Tables.{Table, Load, openWord, taskOf, loadsOf}
 use Rattle.equation.specs.Answer.{smallest}
 use Rattle.blocking.specs.Ceilings.{blockingOf}
 
@@ -51,10 +51,6 @@ endsBy s k = endsAt s (k - 1)
 -- how many q are tried up to the first that ends it; 0 where none of "q = 0 to 63" does
 unfoldable pub endedAfter : Studied → ℕ
 endedAfter s = firstFrom (endsBy s) 1 64
-
--- what the first slice has for open
-abbrev pub openWord : ℕ
-openWord = 4294967295
 
 -- "The first slice gets the answer, 0 for late and 4,294,967,295 for open": "the answer is the largest" R(q) of those tried
 abbrev pub wordAfter : Studied → ℕ → ℕ

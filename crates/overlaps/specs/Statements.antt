@@ -7,6 +7,7 @@ use mathlib.Core.Logic.{_⊎_, _≢_}
 use mathlib.Core.List.{List}
 use lib.ListN.{length}
 use Rattle.model.specs.Lists.{wordOf}
+use Rattle.model.specs.Tables.{openWord}
 use Rattle.tables.specs.Layout.{taskCount, tableOf, periodIn, deadlineIn, earliestIn, latestIn}
 use Rattle.tables.specs.Meaning.{TableRightSpanning, RoomFor}
 use Rattle.tables.specs.Deserved.{DeservedSpanning}
@@ -17,7 +18,7 @@ use Rattle.answering.specs.declared.Verdict.the-variants as verdict
 use Rattle.response.specs.Outcome as first
 use Rattle.overlaps.specs.declared.Found.{Found}
 use Rattle.overlaps.specs.declared.Found.the-variants.{Refused, Delayed, Schedulable, Late, Open}
-use Rattle.overlaps.specs.Overlaps.{Studied, baseAt, limitAt, openWord, studiedOf}
+use Rattle.overlaps.specs.Overlaps.{Studied, baseAt, limitAt, studiedOf}
 use Rattle.overlaps.specs.Outcome.{Call, Left, lending, PastOutcome}
 
 -- R(q) is r: r + qT is "the smallest w equal to B + (1 + q)C plus interference"

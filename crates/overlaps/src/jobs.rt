@@ -2,6 +2,7 @@
 ghost use Prim.Native.Nat.{_<_};
 ghost use lib.ListN.{length};
 ghost use Rattle.overlaps.specs.Columns.{studiedFrom, Beginnable, Searchable, LongestBy};
+use model::OPEN;
 use model::Ticks;
 use model::larger;
 use solver::Mark;
@@ -10,9 +11,6 @@ use solver::ends_at_once;
 use solver::follow;
 use solver::look_ahead;
 use solver::set_first;
-
-// What the first slice has for open: no answer is as large.
-pub const OPEN: u32 = 4294967295;
 
 // What the slices get for one task: its longest response time, or 0 for late, or OPEN; and the number of q tried.
 pub struct Words {

@@ -8,12 +8,12 @@ ghost use Rattle.tables.specs.Layout.{taskCount};
 ghost use Rattle.reading.specs.Columns.{recordColumns, rowColumns, Lent, TableHeld};
 ghost use Rattle.solver.specs.Marks.{PeriodsHigh};
 ghost use Rattle.answering.specs.Slices.{decoded, DecodedFits, slice};
-ghost use Rattle.overlaps.specs.Overlaps.{openWord};
 ghost use Rattle.overlaps.specs.Outcome.{isSchedulable, isCalm, saidBy, lending, leaving, PastOutcome};
 ghost use Rattle.overlaps.specs.Columns.{AllFound};
 ghost use Rattle.overlaps.specs.Numbers.{codeOf, foundPlace, packed, PackedOutcome};
 use answering::Group;
 use answering::group_of;
+use model::OPEN;
 use model::Place;
 use model::Ticks;
 use reading::any_delay;
@@ -28,7 +28,6 @@ use tables::fields::count;
 
 mod jobs;
 
-use jobs::OPEN;
 use jobs::longest;
 
 // What is said of a table.

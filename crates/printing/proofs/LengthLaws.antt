@@ -12,7 +12,8 @@ use Rattle.model.specs.Lists.{total}
 use Rattle.model.specs.Search.{firstFrom}
 use Rattle.model.proofs.Search.{found}
 use Rattle.model.proofs.Tests.{eqb?, clash}
-use Rattle.printing.specs.Text.{bytesOf, isHeld, decimalOf, withNumber, lineWithNumber, refusalLine, openWord, responseText, taskLine, deadlineShown, taskLines}
+use Rattle.model.specs.Tables.{openWord}
+use Rattle.printing.specs.Text.{bytesOf, isHeld, decimalOf, withNumber, lineWithNumber, refusalLine, responseText, taskLine, deadlineShown, taskLines}
 use Rattle.printing.proofs.NumberLaws.{is-held}
 
 digits-long : (base count number : ℕ) → length (digits base count number) ≡ count

@@ -13,7 +13,8 @@ use Rattle.tables.specs.declared.layout.Layout.{Layout}
 use Rattle.tables.specs.Layout.{wordAt, layoutOf, taskCount, recordStart, deadlineAt}
 use Rattle.tables.proofs.LayoutLaws.{size-small}
 use Rattle.printing.specs.Appended.{Appended}
-use Rattle.printing.specs.Text.{bytesOf, withNumber, lineWithNumber, openWord, responseText, taskLine, taskLines, tasksText, deadlineShown}
+use Rattle.model.specs.Tables.{openWord}
+use Rattle.printing.specs.Text.{bytesOf, withNumber, lineWithNumber, responseText, taskLine, taskLines, tasksText, deadlineShown}
 use Rattle.printing.proofs.AppendLaws.{then, nothing, as-text}
 
 pub response-late : (answer : ℕ) → answer ≡ 0 → bytesOf " late" ≡ responseText answer

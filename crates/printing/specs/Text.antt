@@ -11,6 +11,7 @@ use lib.ListN.{length, getD}
 use Rattle.io.specs.Digits.{digits}
 use Rattle.model.specs.Choice.{pick}
 use Rattle.model.specs.Search.{firstFrom}
+use Rattle.model.specs.Tables.{openWord}
 use Rattle.tables.specs.declared.Refusal.{Refusal}
 use Rattle.tables.specs.Layout.{layoutOf, taskCount, recordStart, deadlineAt, deadlineIn}
 use Rattle.tables.specs.Refusals.{numberOf, placeOf}
@@ -42,10 +43,6 @@ refusalLine number place = withNumber (bytesOf "refused ") number ++ lineWithNum
 
 abbrev pub refusedLine : Refusal → List ℕ
 refusedLine refusal = refusalLine (numberOf refusal) (placeOf refusal)
-
--- "The first slice gets the answer, 0 for late and 4,294,967,295 for open" (document 02, L8); no answer of the first analysis is as large
-abbrev pub openWord : ℕ
-openWord = 4294967295
 
 -- "A late task prints `1 late deadline 25 rounds 2`", and an open one ` open` in the same place
 abbrev pub responseText : ℕ → List ℕ

@@ -7,6 +7,7 @@ ghost use Rattle.tables.specs.Layout.{taskCount};
 ghost use Rattle.printing.specs.Appended.{Appended};
 ghost use Rattle.printing.specs.Answered.{answerText};
 ghost use Rattle.printing.specs.Text.{textOf, judgedText, verdictLine, lineWithNumber, refusalLine, refusedLine, tasksText, taskLine, responseText, deadlineShown};
+use model::OPEN;
 use model::Place;
 use model::Ticks;
 use response::Start;
@@ -25,9 +26,6 @@ pub use pieces::append_with_number;
 
 // Bytes enough for the text of any table, and for the longest no more than enough: `longest` of specs/Longest.antt.
 pub const LONGEST: usize = 1675;
-
-// The answer of a task that the second analysis leaves open: `openWord` of specs/Text.antt.
-const OPEN: u32 = 4294967295;
 
 // Analyses the table from either start, and puts the text of what the analysis says at the buffer's beginning; answers where it ends.
 pub fn answer_text(start: Start, table: &[u8], out: &mut [u8]) -> usize

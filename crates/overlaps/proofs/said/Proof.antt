@@ -1,7 +1,7 @@
 -- `overlaps::said` meets its contract, case by case.
 -- Assumes nothing.
 use borrow.Author.Tests.{eq-eqb, ne-eqb}
-use Rattle.overlaps.specs.Overlaps.{openWord}
+use Rattle.model.specs.Tables.{openWord}
 use Rattle.overlaps.proofs.said.Statement.{statement}
 use Rattle.overlaps.proofs.said.Tie as tie
 
