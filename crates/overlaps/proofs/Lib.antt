@@ -5,3 +5,5 @@ pub mod ColumnLaws
 pub mod EndLaws
 pub mod ResultLaws
 pub mod Past
+pub mod Within
+pub mod ExampleLaws

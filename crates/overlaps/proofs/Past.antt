@@ -38,7 +38,7 @@ use Rattle.overlaps.proofs.ResultLaws.{result-right, result-given, resu
 
 module _ (bytes : List ℕ) where
   -- the test for a delay and what it says
-  calm-holds : Calm bytes → isCalm bytes ≡ true
+  pub calm-holds : Calm bytes → isCalm bytes ≡ true
   calm-holds calm =
       eq-eqb (largestTo (latestIn bytes) (taskCount bytes)) 0
       (omega (arith, largest-high (latestIn bytes) (taskCount bytes) 0 (λ k h. omega (arith, calm k h .1))))
@@ -95,7 +95,7 @@ module _ (lent : Call) where
   by-words e p result f a t = record { foundIs = rw (e, p) f; answersAre = rw (e, p) a; triedAre = rw (e, p) t }
 
   module _ (result : Left) (o : PastOutcome lent result) where
-    refused-is : (r : Refusal) → pastCheck (lent .bytes) (length (lent .answers)) (length (lent .tried)) ≡ check.Refused r →
+    pub refused-is : (r : Refusal) → pastCheck (lent .bytes) (length (lent .answers)) (length (lent .tried)) ≡ check.Refused r →
         (result .found ≡ Refused r) × Unchanged lent result
     unfolding foundOf answersAfter triedWordsAfter
     refused-is r e =

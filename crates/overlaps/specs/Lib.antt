@@ -3,3 +3,4 @@ pub mod Outcome
 pub mod Columns
 pub mod Numbers
 pub mod Statements
+pub mod Examples
