@@ -31,13 +31,13 @@ same-length : tie.Need-same-length Inv-loop μ-loop
 same-length c = c .before .before .loop .inv .1
 
 returns : tie.Need-returns Inv-loop μ-loop
-returns c = turn-past _ _ _ _ _ _ _ _ _ _ _ _ _ _ _ _ _ _ (c .before .before .loop .inv .0) (c .before .loop-test .taken) (c .if1 .taken)
+returns c = turn-past _ _ _ _ _ _ _ _ _ _ _ _ _ _ _ _ _ _ (c .before .before .loop .inv .0) (omega (arith, c .before .loop-test .taken)) (c .if1 .taken)
 
 cast-t34 : tie.Need-cast-t34 Inv-loop μ-loop
 cast-t34 c = omega arith
 
 follow-requires : tie.Need-follow-requires Inv-loop μ-loop
-follow-requires c κs = may-try _ _ _ _ _ _ _ _ _ _ _ _ _ _ _ _ _ _ (c .before .before .before .loop .inv .0) (c .before .before .loop-test .taken) (c .before .if1 .left)
+follow-requires c κs = may-try _ _ _ _ _ _ _ _ _ _ _ _ _ _ _ _ _ _ (c .before .before .before .loop .inv .0) (omega (arith, c .before .before .loop-test .taken)) (c .before .if1 .left)
 
 add-t38 : tie.Need-add-t38 Inv-loop μ-loop
 add-t38 c = omega (arith, c .before .before .before .before .before .before .loop-test .taken)
@@ -46,7 +46,7 @@ same-length-2 : tie.Need-same-length-2 Inv-loop μ-loop
 same-length-2 c = search needs
 
 returns-2 : tie.Need-returns-2 Inv-loop μ-loop
-returns-2 c = turn-late _ _ _ _ _ _ _ _ _ _ _ _ _ _ _ _ _ _ (c .before .before .before .before .before .before .before .loop .inv .0) (c .before .before .before .before .before .before .loop-test .taken) _ _ _ _ _ (c .before .before .before .follow .ensures) (c .if2 .taken)
+returns-2 c = turn-late _ _ _ _ _ _ _ _ _ _ _ _ _ _ _ _ _ _ (c .before .before .before .before .before .before .before .loop .inv .0) (omega (arith, c .before .before .before .before .before .before .loop-test .taken)) _ _ _ _ _ (c .before .before .before .follow .ensures) (c .if2 .taken)
 
 sub-response : tie.Need-sub-response Inv-loop μ-loop
 sub-response c = omega (arith, window-low _ _ _ _ _ _ _ _ _ _ _ _ _ _ _ _ _ _ (c .before .before .before .before .before .before .before .loop .inv .0) _ _ _ _ _ (c .before .before .before .follow .ensures) (c .if2 .left))
@@ -61,7 +61,7 @@ same-length-3 : tie.Need-same-length-3 Inv-loop μ-loop
 same-length-3 c = search needs
 
 returns-3 : tie.Need-returns-3 Inv-loop μ-loop
-returns-3 c = turn-stops _ _ _ _ _ _ _ _ _ _ _ _ _ _ _ _ _ _ (c .before .before .before .before .before .before .before .before .before .loop .inv .0) _ _ _ _ _ (c .before .before .before .before .before .follow .ensures) (c .before .before .if2 .left) _ (c .before .larger .ensures) (c .before .before .before .before .before .before .before .before .loop-test .taken) (c .if3 .taken)
+returns-3 c = turn-stops _ _ _ _ _ _ _ _ _ _ _ _ _ _ _ _ _ _ (c .before .before .before .before .before .before .before .before .before .loop .inv .0) _ _ _ _ _ (c .before .before .before .before .before .follow .ensures) (c .before .before .if2 .left) _ (c .before .larger .ensures) (omega (arith, c .before .before .before .before .before .before .before .before .loop-test .taken)) (c .if3 .taken)
 
 add-base-2 : tie.Need-add-base-2 Inv-loop μ-loop
 add-base-2 c = omega (arith, c .before .before .before .before .before .before .before .before .before .loop .inv .0 .baseHigh, c .before .before .before .before .before .before .before .before .before .loop .inv .0 .numbers .costHigh, c .before .before .before .before .before .before .before .before .loop-test .taken)
@@ -82,13 +82,13 @@ loop-less : tie.Need-loop-less Inv-loop μ-loop
 loop-less c = omega (arith, c .before .before .before .before .before .before .before .before .before .loop-test .taken)
 
 loop-again : tie.Need-loop-again Inv-loop μ-loop
-loop-again c = (turn-on _ _ _ _ _ _ _ _ _ _ _ _ _ _ _ _ _ _ (c .before .before .before .before .before .before .before .before .before .before .loop .inv .0) _ _ _ _ _ (c .before .before .before .before .before .before .follow .ensures) (c .before .before .before .if2 .left) _ (c .before .before .larger .ensures) (c .before .before .before .before .before .before .before .before .before .loop-test .taken) (c .before .if3 .left), search needs)
+loop-again c = (turn-on _ _ _ _ _ _ _ _ _ _ _ _ _ _ _ _ _ _ (c .before .before .before .before .before .before .before .before .before .before .loop .inv .0) _ _ _ _ _ (c .before .before .before .before .before .before .follow .ensures) (c .before .before .before .if2 .left) _ (c .before .before .larger .ensures) (omega (arith, c .before .before .before .before .before .before .before .before .before .loop-test .taken)) (c .before .if3 .left), search needs)
 
 same-length-4 : tie.Need-same-length-4 Inv-loop μ-loop
 same-length-4 c = c .before .loop .inv .1
 
 returns-4 : tie.Need-returns-4 Inv-loop μ-loop
-returns-4 c = turn-open _ _ _ _ _ _ _ _ _ _ _ _ _ _ _ _ _ _ (c .before .loop .inv .0) (c .loop-test .left)
+returns-4 c = turn-open _ _ _ _ _ _ _ _ _ _ _ _ _ _ _ _ _ _ (c .before .loop .inv .0) (omega (arith, c .loop-test .left))
 
 pub search-spec : {M : Type 1} → statement M
 search-spec =
