@@ -18,7 +18,7 @@ use Rattle.response.specs.Verdicts.{codeOf, verdictPlace}
 use Rattle.worked.specs.Stay.{filler, allFiller, stays}
 use Rattle.worked.specs.Compared.{sameWords, sameOutcome}
 use Rattle.worked.specs.Played.{isRefused, agrees}
-use Rattle.worked.specs.Starts.{numbersText}
+use Rattle.worked.specs.Numbers.{numbersText}
 
 -- a word that has stayed, one that has not, and the end
 module _ (words : List ℕ) (i : ℕ) where

@@ -1,6 +1,7 @@
 // Judges every table of the file `tables` and prints each one's text, to be held to an independent reference. Then the engine plays
 // it, and a line says with which verdict; where it takes a table and does not say and leave what the analysis does, a line says so.
-// A last line tells the rounds from the old start; where that changes the verdict or an answer, a line says so.
+// A line tells the rounds from the old start; where that changes the verdict or an answer, a line says so. The last lines tell what the second
+// analysis finds and leaves.
 //
 // An entry of the file is two bytes with the table's length, one byte with the length of the slice to lend for answers, one byte
 // with that of the slice to lend for rounds, and the table's bytes.
@@ -11,6 +12,8 @@ ghost use Rattle.printing.specs.Appended.{Appended};
 ghost use Rattle.worked.specs.Stay.{stays, stayLine};
 
 mod comparing;
+mod numbers;
+mod past;
 mod playing;
 mod starts;
 
@@ -102,6 +105,21 @@ fn lend(number: u64, table: &[u8], answers_length: usize, rounds_length: usize)
         &mut played[..answers_length],
         &mut old_answers[..answers_length],
         &mut old_rounds[..rounds_length],
+    );
+    lend_past(table, answers_length, rounds_length);
+}
+
+// The same for the second analysis: two slices, as long as the first analysis's.
+fn lend_past(table: &[u8], answers_length: usize, tried_length: usize)
+    requires { ⌜ «answers_length» < 256 ⌝ }
+    requires { ⌜ «tried_length» < 256 ⌝ }
+{
+    let mut answers = filler();
+    let mut tried = filler();
+    past::judge(
+        table,
+        &mut answers[..answers_length],
+        &mut tried[..tried_length],
     );
 }
 

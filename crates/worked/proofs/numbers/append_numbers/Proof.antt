@@ -1,15 +1,15 @@
--- `worked::starts::append_numbers` meets its contract: each turn appends one number.
+-- `worked::numbers::append_numbers` meets its contract: each turn appends one number.
 -- Assumes nothing.
 use Prim.Native.Nat.{_-_, _≤_}
 use native.Mathlib.Omega.{arith}
 use mathlib.Core.Path.{_≡_, ap}
 use Rattle.printing.specs.Appended.{Appended}
 use Rattle.printing.proofs.AppendLaws.{then, nothing, as-text, long}
-use Rattle.worked.specs.Starts.{numbersText}
+use Rattle.worked.specs.Numbers.{numbersText}
 use Rattle.worked.proofs.WordLaws.{numbers-none, numbers-more}
 use borrow.Author.Needs.{needs}
-use Rattle.worked.proofs.starts.append_numbers.Statement.{statement}
-use Rattle.worked.proofs.starts.append_numbers.Tie as tie
+use Rattle.worked.proofs.numbers.append_numbers.Statement.{statement}
+use Rattle.worked.proofs.numbers.append_numbers.Tie as tie
 
 abbrev Inv-loop : tie.InvT-loop
 Inv-loop out₀ at words count next₀ i₀ t7 out next i =
