@@ -44,7 +44,7 @@ pub fn longest(
             tried: 1,
         };
     }
-    // (the own first mark is none of the least either: a term that has passed no mark is within the period)
+    // `least` is not above the own first mark, which without delays is the period: a term that has passed no mark is within it
     if ends_at_once(once, once, least) {
         return Words {
             answer: once.0,
