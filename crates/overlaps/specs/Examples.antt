@@ -52,6 +52,7 @@ unfoldable pub examples : List Example
 examples =
     -- "The example in 001 gives 10 and 15, its process 2 standing first."
     example (tasksAlone (plain 2 20 10 20 ∷ plain 1 10 5 20 ∷ [])) Schedulable (10 ∷ 15 ∷ []) (1 ∷ 2 ∷ [])
+    ∷ example (encode 2 (record { tasks = plain 2 20 10 20 ∷ plain 1 10 5 20 ∷ []; rows = [] })) Schedulable (10 ∷ 15 ∷ []) (1 ∷ 2 ∷ [])
     -- R(0), R(1) and R(2) of the second task are 5, 6 and 4: the largest is neither the first nor the last
     ∷ example (tasksAlone (plain 2 6 3 6 ∷ plain 1 4 2 16 ∷ [])) Schedulable (3 ∷ 6 ∷ []) (1 ∷ 3 ∷ [])
     -- late at q = 0; D < R(0) ≤ T is late too; late at q = 1
