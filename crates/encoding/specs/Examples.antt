@@ -64,6 +64,24 @@ refused =
     ∷ 1 ∷ 0 ∷ 0 ∷ 0 ∷ 10 ∷ 0 ∷ 0 ∷ 0 ∷ 3 ∷ 0 ∷ 0 ∷ 0 ∷ 10 ∷ 0 ∷ 0 ∷ 0 ∷ 0
     ∷ []
 
+-- examples/past-period.table: the example of source document 001, one deadline past its period (SPECIFICATION 13.8; document 02, L8)
+abbrev pub pastPeriod : List ℕ
+pastPeriod =
+    1 ∷ 0 ∷ 39 ∷ 2 ∷ 0
+    ∷ 2 ∷ 0 ∷ 0 ∷ 0 ∷ 20 ∷ 0 ∷ 0 ∷ 0 ∷ 10 ∷ 0 ∷ 0 ∷ 0 ∷ 20 ∷ 0 ∷ 0 ∷ 0 ∷ 0
+    ∷ 1 ∷ 0 ∷ 0 ∷ 0 ∷ 10 ∷ 0 ∷ 0 ∷ 0 ∷ 5 ∷ 0 ∷ 0 ∷ 0 ∷ 20 ∷ 0 ∷ 0 ∷ 0 ∷ 0
+    ∷ []
+
+-- examples/open.table: a task that the second analysis leaves open, blocked for a tick, above one that is late
+abbrev pub leftOpen : List ℕ
+leftOpen =
+    1 ∷ 0 ∷ 51 ∷ 2 ∷ 2
+    ∷ 2 ∷ 0 ∷ 0 ∷ 0 ∷ 1 ∷ 0 ∷ 0 ∷ 0 ∷ 1 ∷ 0 ∷ 0 ∷ 0 ∷ 4 ∷ 0 ∷ 0 ∷ 0 ∷ 0
+    ∷ 1 ∷ 0 ∷ 0 ∷ 0 ∷ 100 ∷ 0 ∷ 0 ∷ 0 ∷ 1 ∷ 0 ∷ 0 ∷ 0 ∷ 100 ∷ 0 ∷ 0 ∷ 0 ∷ 0
+    ∷ 0 ∷ 1 ∷ 0 ∷ 0 ∷ 0 ∷ 1
+    ∷ 1 ∷ 1 ∷ 0 ∷ 0 ∷ 0 ∷ 1
+    ∷ []
+
 -- a version, a table, and the bytes that it has in that version
 pub record Example : Type 0 where
   pub version : ℕ
@@ -90,6 +108,8 @@ examples =
     ∷ example 2 (task 2 30 10 20 10 10 ∷ task 1 1000 15 25 0 0 ∷ []) [] delays
     ∷ example 1 (task 2 4 1 4 0 0 ∷ task 1 6 2 6 0 0 ∷ task 1 10 3 10 0 0 ∷ []) [] groups
     ∷ example 1 (task 3 4 1 4 0 0 ∷ task 2 6 2 7 0 0 ∷ task 1 10 3 10 0 0 ∷ []) [] refused
+    ∷ example 1 (task 2 20 10 20 0 0 ∷ task 1 10 5 20 0 0 ∷ []) [] pastPeriod
+    ∷ example 1 (task 2 1 1 4 0 0 ∷ task 1 100 1 100 0 0 ∷ []) (row 0 1 1 ∷ row 1 1 1 ∷ []) leftOpen
     ∷ []
 
 abbrev pub encodedOf : Example → List ℕ

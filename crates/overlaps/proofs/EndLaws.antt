@@ -220,7 +220,7 @@ module _ (s : Studied) where
   how-many answer count (inr o) = omega (arith, o .counted)
 
   -- where it ends, it is not open
-  answer-within : 1 ≤ s .cost → (answer count : ℕ) → EndsWith s answer count → answer ≤ s .deadline
+  pub answer-within : 1 ≤ s .cost → (answer count : ℕ) → EndsWith s answer count → answer ≤ s .deadline
   answer-within one answer count e =
       elim (e .end) [
         | inl stops ↦

@@ -1,1 +1,4 @@
 pub mod Text
+pub mod Answered
+pub mod Longest
+pub mod Samples

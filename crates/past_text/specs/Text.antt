@@ -15,3 +15,14 @@ foundLine Delayed = refusalLine 11 0
 foundLine Schedulable = bytesOf "schedulable\n"
 foundLine (Late place) = lineWithNumber (bytesOf "late ") (place .0)
 foundLine (Open place) = lineWithNumber (bytesOf "open ") (place .0)
+
+-- the tasks' lines in front of it: "the number of q tried in place of rounds"
+abbrev pub judgedText : List ℕ → Found → List ℕ → List ℕ → List ℕ
+judgedText bytes found answers tried = tasksText (bytesOf " tried ") bytes answers tried ++ foundLine found
+
+abbrev pub pastTextOf : List ℕ → Found → List ℕ → List ℕ → List ℕ
+pastTextOf bytes (Refused refusal) answers tried = foundLine (Refused refusal)
+pastTextOf bytes Delayed answers tried = foundLine Delayed
+pastTextOf bytes Schedulable answers tried = judgedText bytes Schedulable answers tried
+pastTextOf bytes (Late place) answers tried = judgedText bytes (Late place) answers tried
+pastTextOf bytes (Open place) answers tried = judgedText bytes (Open place) answers tried

@@ -1,0 +1,3 @@
+pub mod AnsweredLaws
+pub mod LongestLaws
+pub mod SampleTexts
