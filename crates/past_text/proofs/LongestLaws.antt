@@ -59,7 +59,7 @@ module _ (lent : Call) (result : Left) (written : Written lent result) where
   judged-long : (last : List ℕ) → length last ≤ 12 →
       length (tasksText (bytesOf " tried ") bytes (result .answers) (result .tried) ++ last) ≤ longestPast
   judged-long last short =
-      text-long 4 bytes (written .readable .right) (bytesOf " tried ") (result .answers) (result .tried) last 2 small short
+      omega (arith, text-long 4 bytes (written .readable .right) (bytesOf " tried ") (result .answers) (result .tried) last 2 small short)
 
 pub pastTextFits : PastTextFits
 pastTextFits lent result o = go (result .found) (pastAnalysed .right lent result o) (found-place lent result o)

@@ -7,8 +7,8 @@ use Rattle.printing.specs.Text.{bytesOf, lineWithNumber, refusalLine, refusedLi
 use Rattle.overlaps.specs.declared.Found.{Found}
 use Rattle.overlaps.specs.declared.Found.the-variants.{Refused, Delayed, Schedulable, Late, Open}
 
--- the last line: "schedulable", or "late" or "open" "with the place of the first such task"; a refusal's is the only one, "11" and "place 0"
--- for a delay
+-- the last line: ""schedulable", or "late" or "open" with the place of the first such task"; a refusal's is the only one, and a delay is
+-- "refused with 11, after 8, place 0"
 abbrev pub foundLine : Found → List ℕ
 foundLine (Refused refusal) = refusedLine refusal
 foundLine Delayed = refusalLine 11 0
