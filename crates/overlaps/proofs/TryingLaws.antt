@@ -208,10 +208,11 @@ module _ (periods costs spreads : List ℕ) (own count blocked cost period deadl
         turn-stops h low =
             stopped-by subject q h (t .going) (omega (arith, window-found, window-low)) (omega (arith, response-found)) newLargest largest-now
 
-        -- or go on to the next q
-        pub turn-on : q < 64 → (period < window - passed) →
-            Trying ahead (q + 1) (base + cost) (window + cost) (passed + period) (limit + period) newLargest after newLeast
-        turn-on h above =
+        -- or go on to the next q: the numbers that go along are raised, and the marks stay
+        pub turn-on : q < 64 → period < window - passed → (nextBase nextX nextPassed nextLimit : ℕ) → nextBase ≡ base + cost → nextX ≡ window + cost →
+            nextPassed ≡ passed + period → nextLimit ≡ limit + period →
+            Trying ahead (q + 1) nextBase nextX nextPassed nextLimit newLargest after newLeast
+        turn-on h above nextBase nextX nextPassed nextLimit baseRaised xRaised passedRaised limitRaised =
             record {
               fit = t .fit;
               periodHigh = t .periodHigh;
@@ -225,17 +226,17 @@ module _ (periods costs spreads : List ℕ) (own count blocked cost period deadl
                         (goes-on subject q (omega (arith, window-found, window-low)) (omega (arith, response-found)))
                     | no e ↦ t .going p (omega arith)
                   ];
-              baseIs = omega (arith, t .baseIs);
-              passedIs = omega (arith, t .passedIs);
-              passedHigh = omega (arith, t .passedHigh, t .numbers .periodHigh);
-              limitIs = omega (arith, t .limitIs);
-              limitHigh = omega (arith, t .limitHigh, t .numbers .periodHigh);
-              baseHigh = omega (arith, t .baseHigh, t .numbers .costHigh);
+              baseIs = omega (arith, baseRaised, t .baseIs);
+              passedIs = omega (arith, passedRaised, t .passedIs);
+              passedHigh = omega (arith, passedRaised, t .passedHigh, t .numbers .periodHigh);
+              limitIs = omega (arith, limitRaised, t .limitIs);
+              limitHigh = omega (arith, limitRaised, t .limitHigh, t .numbers .periodHigh);
+              baseHigh = omega (arith, baseRaised, t .baseHigh, t .numbers .costHigh);
               largestIs = largest-now;
-              above = omega arith;
-              xHigh = omega (arith, window-fits, t .limitHigh, t .numbers .costHigh);
-              notAbove = raisedNotAbove base (loads periods costs spreads own count) cost window base-low small;
-              right = right-raised periods costs spreads own count base cost window after newLeast (followed .held left);
+              above = omega (arith, passedRaised, xRaised);
+              xHigh = omega (arith, xRaised, window-fits, t .limitHigh, t .numbers .costHigh);
+              notAbove = rw (baseRaised, xRaised) (raisedNotAbove base (loads periods costs spreads own count) cost window base-low small);
+              right = rw (baseRaised, xRaised) (right-raised periods costs spreads own count base cost window after newLeast (followed .held left));
             }
 
     -- no q is left

@@ -82,7 +82,7 @@ loop-less : tie.Need-loop-less Inv-loop μ-loop
 loop-less c = omega (arith, c .before .before .before .before .before .before .before .before .before .loop-test .taken)
 
 loop-again : tie.Need-loop-again Inv-loop μ-loop
-loop-again c = (turn-on _ _ _ _ _ _ _ _ _ _ _ _ _ _ _ _ _ _ (c .before .before .before .before .before .before .before .before .before .before .loop .inv .0) _ _ _ _ _ (c .before .before .before .before .before .before .follow .ensures) (c .before .before .before .if2 .left) _ (c .before .before .larger .ensures) (omega (arith, c .before .before .before .before .before .before .before .before .before .loop-test .taken)) (c .before .if3 .left), search needs)
+loop-again c = (turn-on _ _ _ _ _ _ _ _ _ _ _ _ _ _ _ _ _ _ (c .before .before .before .before .before .before .before .before .before .before .loop .inv .0) _ _ _ _ _ (c .before .before .before .before .before .before .follow .ensures) (c .before .before .before .if2 .left) _ (c .before .before .larger .ensures) (omega (arith, c .before .before .before .before .before .before .before .before .before .loop-test .taken)) (c .before .if3 .left) _ _ _ _ (omega arith) (omega arith) (omega arith) (omega arith), search needs)
 
 same-length-4 : tie.Need-same-length-4 Inv-loop μ-loop
 same-length-4 c = c .before .loop .inv .1
