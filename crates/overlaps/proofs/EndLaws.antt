@@ -5,8 +5,8 @@ use native.Mathlib.Omega.{arith}
 use native.Mathlib.Decide.{decLe, ℕ-discrete}
 use mathlib.Core.Path.{_≡_, refl, sym, _∙_, ap, subst}
 use mathlib.Core.Bool.{true, false}
-use mathlib.Core.Logic.{_⊎_, inl, inr}
-use lib.Dec.{eqb, leb}
+use mathlib.Core.Logic.{inl, inr}
+use lib.Dec.{leb}
 use borrow.Author.Tests.{eqb-true, eqb-false, leb-true, leb-false}
 use Rattle.model.specs.Lists.{largestTo}
 use Rattle.model.proofs.Lists.{largest-low, largest-high, largest-more, largest-none}
@@ -17,7 +17,7 @@ use Rattle.equation.specs.Laws.{IsSmallest}
 use Rattle.equation.proofs.Laws.{raisedNotAbove}
 use Rattle.overlaps.specs.Overlaps.{Studied, baseAt, limitAt, windowAt, responseAt, lateAt, endsAt, endsBy, endedAfter, longest, tried}
 use Rattle.overlaps.specs.Columns.{LongestBy}
-use Rattle.overlaps.specs.Statements.{Responds, GoesOn, GoOnBefore, LateAt, StopsAt, IsLargest, EndsWith, IsOpen, LongestRight, PastEnds}
+use Rattle.overlaps.specs.Statements.{Responds, GoesOn, GoOnBefore, LateAt, StopsAt, IsLargest, EndsWith, LongestRight, PastEnds}
 use Rattle.overlaps.proofs.SearchLaws.{Going, window-is, window-small, window-high, no-window, response-is, goes-on, late-by, stopped-by, open-by}
 
 -- a solution that is the smallest is the only one that is

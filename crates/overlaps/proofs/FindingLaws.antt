@@ -1,6 +1,6 @@
 -- One turn of the loop over the tasks of a decoded table.
 -- Assumes nothing.
-use Prim.Native.Nat.{ℕ, _+_, _-_, _≤_, _<_}
+use Prim.Native.Nat.{ℕ, _+_, _-_, _<_}
 use native.Mathlib.Omega.{arith}
 use native.Mathlib.Numerals.{add-one}
 use mathlib.Core.Path.{_≡_, refl, sym, _∙_, ap, subst}
@@ -10,7 +10,6 @@ use Rattle.model.specs.Search.{firstOf}
 use Rattle.model.proofs.First.{first-none}
 use Rattle.tables.specs.Refusals.{at}
 use Rattle.equation.specs.declared.Start.the-variants.{EveryCost}
-use Rattle.equation.specs.Slices.{loads}
 use Rattle.solver.specs.Marks.{PeriodsHigh, firstMarkAt, leastFrom, never}
 use Rattle.solver.proofs.PassLaws.{least-low}
 use Rattle.answering.specs.Slices.{Decoded, DecodedFits, GroupFound}

@@ -1,16 +1,15 @@
 -- What is claimed of the second analysis for the bytes of any table.
 -- Assumes nothing.
-use Prim.Native.Nat.{ℕ, _+_, _≤_, _<_}
+use Prim.Native.Nat.{ℕ, _≤_, _<_}
 use native.Mathlib.Omega.{arith}
 use mathlib.Core.Path.{_≡_, refl, sym, _∙_, ap, subst}
-use mathlib.Core.Bool.{Bool, true, false}
+use mathlib.Core.Bool.{true, false}
 use mathlib.Core.Logic.{inl, inr}
 use mathlib.Core.List.{List}
-use lib.Dec.{eqb}
 use lib.ListN.{length}
-use borrow.Author.Tests.{eq-eqb, eqb-true, ne-eqb}
+use borrow.Author.Tests.{eq-eqb, eqb-true}
 use Rattle.model.specs.Lists.{filled, largestTo, wordOf}
-use Rattle.model.specs.Tables.{Task, taskOf}
+use Rattle.model.specs.Tables.{taskOf}
 use Rattle.model.proofs.Filling.{filled-word, is-filled}
 use Rattle.model.proofs.First.{first-same}
 use Rattle.model.proofs.Lists.{largest-low, largest-high, getD-filled-past, length-filled}
@@ -27,9 +26,8 @@ use Rattle.tables.proofs.PlaceLaws.{refusal-place}
 use Rattle.tables.proofs.CheckLaws.{table-deserved, table-gives, table-right, table-clean}
 use Rattle.overlaps.specs.declared.Found.{Found}
 use Rattle.overlaps.specs.declared.Found.the-variants.{Refused, Delayed, Schedulable, Late, Open}
-use Rattle.overlaps.specs.Overlaps.{studiedOf, longest, tried, longestOf, triedOf}
+use Rattle.overlaps.specs.Overlaps.{studiedOf, tried, longestOf, triedOf}
 use Rattle.overlaps.specs.Outcome.{isSchedulable, saidBy, saidAt, resultOf, pastCheck, isCalm, foundOf, answersAfter, triedWordsAfter, Call, Left, leaving, PastOutcome}
-use Rattle.overlaps.specs.Columns.{LongestBy}
 use Rattle.overlaps.specs.Numbers.{foundPlace}
 use Rattle.overlaps.specs.Statements as says
 use Rattle.overlaps.specs.Statements.{LongestRight, ResultRight, Calm, Readable, Unchanged, Written, FoundRight, LeftRight}

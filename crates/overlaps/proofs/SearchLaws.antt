@@ -1,13 +1,12 @@
 -- What the searches of the definitions find for one task: the window of a q, and the q that ends it.
 -- Assumes nothing.
-use Prim.Native.Nat.{ℕ, suc, _+_, _*_, _-_, _≤_, _<_}
+use Prim.Native.Nat.{ℕ, _+_, _*_, _-_, _≤_, _<_}
 use native.Mathlib.Omega.{arith}
 use native.Mathlib.Decide.{decLe}
-use mathlib.Core.Path.{_≡_, refl, sym, _∙_, ap, subst}
+use mathlib.Core.Path.{_≡_, sym, _∙_, ap, subst}
 use mathlib.Core.Bool.{Bool, true, false}
-use lib.Dec.{eqb, leb}
 use borrow.Author.Tests.{eq-eqb, ne-eqb, eqb-true, eqb-false, le-leb, lt-leb}
-use Rattle.model.specs.Choice.{pick, either}
+use Rattle.model.specs.Choice.{pick}
 use Rattle.model.specs.Lists.{largestTo}
 use Rattle.model.proofs.Search as search-laws
 use Rattle.model.proofs.Tests.{either-left, either-right, either-neither}

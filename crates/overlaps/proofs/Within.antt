@@ -1,17 +1,16 @@
 -- Where no deadline is past its period, the second analysis says and leaves what the first does.
 -- Assumes nothing.
-use Prim.Native.Nat.{ℕ, _+_, _*_, _-_, _≤_, _<_, min}
+use Prim.Native.Nat.{ℕ, _-_, _≤_, _<_}
 use native.Mathlib.Omega.{arith}
 use native.Mathlib.Decide.{decLe}
 use mathlib.Core.Path.{_≡_, refl, sym, _∙_, ap, subst}
-use mathlib.Core.Bool.{Bool, true, false}
+use mathlib.Core.Bool.{Bool, true}
 use mathlib.Core.Logic.{inl, inr}
 use mathlib.Core.List.{List, [], _∷_}
-use lib.Dec.{eqb, leb}
+use lib.Dec.{leb}
 use lib.ListN.{length}
 use borrow.Author.Tests.{ne-eqb, le-leb, lt-leb}
-use Rattle.model.specs.Choice.{both, pick}
-use Rattle.model.specs.Lists.{filled, largestTo, wordOf}
+use Rattle.model.specs.Choice.{both}
 use Rattle.model.specs.Tables.{Task, Table, openWord, taskOf, loadsOf}
 use Rattle.model.proofs.Filling.{filled-word, filled-same}
 use Rattle.model.proofs.First.{first-same, first-told}
@@ -21,7 +20,7 @@ use Rattle.tables.specs.declared.Refusal.{Refusal}
 use Rattle.tables.specs.declared.Check.{Check}
 use Rattle.tables.specs.declared.Check.the-variants as check
 use Rattle.tables.specs.Fields.{RecordField, periodField, costField, deadlineField, earliestField, latestField, priorityField, recordOrder, refusalInRecord}
-use Rattle.tables.specs.Layout.{layoutOf, taskCount, taskAt, tasksOf, tableOf, periodIn, deadlineIn}
+use Rattle.tables.specs.Layout.{layoutOf, taskCount, taskAt, tableOf, periodIn, deadlineIn}
 use Rattle.tables.specs.Refusals.{at, isClean, fieldsCheck, firstIn}
 use Rattle.tables.specs.Rules.{longestDeadline, priorityFits, recordTest}
 use Rattle.tables.specs.Checks.{recordCheck, recordsCheck, rowsCheck, bodyCheck, headCheck, roomCheck, tableCheckSpanning, tableCheck}
@@ -38,14 +37,12 @@ use Rattle.response.specs.Analysis.{baseOf, answerOf}
 use Rattle.response.specs.Outcome as first
 use Rattle.response.specs.Statements.{Accepted}
 use Rattle.response.proofs.Demands.{answers-kept, verdict-given, answers-filled, result-is}
-use Rattle.overlaps.specs.declared.Found.{Found}
 use Rattle.overlaps.specs.declared.Found.the-variants.{Refused, Schedulable, Late}
-use Rattle.overlaps.specs.Overlaps.{Studied, baseAt, limitAt, windowAt, responseAt, studiedOf, longest, tried, longestOf, triedOf}
-use Rattle.overlaps.specs.Outcome.{isSchedulable, saidBy, saidAt, resultOf, pastCheck, isCalm, foundOf, answersAfter, triedWordsAfter, lending, Left, PastOutcome}
+use Rattle.overlaps.specs.Overlaps.{Studied, baseAt, limitAt, windowAt, responseAt, studiedOf, tried, longestOf, triedOf}
+use Rattle.overlaps.specs.Outcome.{isSchedulable, saidBy, saidAt, resultOf, pastCheck, lending, Left, PastOutcome}
 use Rattle.overlaps.specs.Columns.{LongestBy}
-use Rattle.overlaps.specs.Statements.{Calm, Readable, asFound, SameLeft, SameWithinPeriod}
+use Rattle.overlaps.specs.Statements.{Calm, asFound, SameLeft, SameWithinPeriod}
 use Rattle.overlaps.proofs.SearchLaws.{Going, window-high, response-is, late-by, stopped-by}
-use Rattle.overlaps.proofs.ResultLaws.{said-in-time}
 use Rattle.overlaps.proofs.Past.{calm-holds, refused-is, words-are}
 
 -- a deadline within its period passes both tests or neither

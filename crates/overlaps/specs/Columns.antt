@@ -2,10 +2,10 @@
 -- contracts of functions that know no bytes. What is to be believed is `longestOf` and `triedOf`, of a table; that both agree for the columns
 -- of every accepted table is proved in proofs/ColumnLaws.antt.
 -- Assumes nothing.
-use Prim.Native.Nat.{ℕ, _+_, _≤_, _<_}
+use Prim.Native.Nat.{ℕ, _+_, _≤_}
 use mathlib.Core.Path.{_≡_}
 use mathlib.Core.List.{List}
-use lib.ListN.{length, getD}
+use lib.ListN.{getD}
 use Rattle.model.specs.Lists.{filled}
 use Rattle.model.specs.Tables.{Load}
 use Rattle.equation.specs.Laws.{NotAbove}

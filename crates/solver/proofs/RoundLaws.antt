@@ -18,7 +18,7 @@ use Rattle.model.proofs.Lists.{getD-filled, getD-filled-past, length-filled}
 use Rattle.model.proofs.Tests.{both-true, clash}
 use Rattle.equation.specs.Demand.{demand}
 use Rattle.equation.specs.Laws.{costOf}
-use Rattle.equation.specs.Slices.{loads, loadAt, LoadsFit}
+use Rattle.equation.specs.Slices.{loads, LoadsFit}
 use Rattle.solver.specs.Solver.{Solvable, SolvedBy, Followable, FollowedBy}
 use Rattle.solver.specs.Invariant.{InLimits, Marked, NonePassed, places, Right}
 use Rattle.solver.specs.Marks.{raise, firstMarkFor, movedAt, moreAt, PeriodsHigh, Markable, Passable, Passed, Advanced, Begun}
