@@ -1,5 +1,5 @@
 -- What is claimed of the second analysis for the bytes of any table (SPECIFICATION 13.8; document 02, L8), as named statements about what
--- `analyse_past_period` answers and leaves (`PastOutcome`, its contract). The proofs are in proofs/Past.antt and proofs/EndLaws.antt.
+-- `analyse_past_period` answers and leaves (`PastOutcome`, its contract). The proofs are in proofs/Past.antt, EndLaws.antt and Within.antt.
 -- Assumes nothing.
 use Prim.Native.Nat.{ℕ, _+_, _*_, _≤_, _<_}
 use mathlib.Core.Path.{_≡_}
