@@ -7,7 +7,8 @@ runs tick by tick. The engine of document 02, L1, is played from event to event,
 knows nothing of the equation. Sentences in double quotation marks are document 01's,
 or L1's where the engine is spoken of, L3's where the places of refusals are, L4's
 where version 2 or delays are, L5's where the starts are, L6's where tasks that share a
-priority are, L7's where claims are, and L8's where deadlines past the period are.
+priority are, L7's where claims are, L8's where deadlines past the period are, and L9's where
+version 3 is.
 
 Needs Python 3.7 or later and nothing else.
 """
@@ -22,7 +23,7 @@ import re
 import sys
 
 # ---------------------------------------------------------------------------
-# The table's bytes: "house form", version 1 and version 2
+# The table's bytes: "house form", versions 1 to 3
 # ---------------------------------------------------------------------------
 
 HEADER_BYTES = 5
@@ -30,18 +31,24 @@ ROW_BYTES = 6
 # Where n and m stand.
 TASK_COUNT_BYTE = 3
 ROW_COUNT_BYTE = 4
-MOST_TASKS = 32
+# "Version 3 has version 2's layout with n up to 200"; "Versions 1 and 2 keep their limit of 32."
+# The programs lend slices for the most tasks of all.
+MOST_TASKS = 200
+MOST_BEFORE = 32
+VERSIONS_BEFORE = (1, 2)
 MOST_ROWS = 64
 
 # What the version decides: a record's bytes, the most tasks, and where each field stands in its
 # record. The fields are in the order tested: "taken as T, C, D, J, priority"; version 2 has
 # "earliest and latest delay in place of J". The one delay of version 1 is the latest: its tables
-# "read with earliest 0".
+# "read with earliest 0". "The version byte alone decides which layout and limits hold."
 Layout = collections.namedtuple("Layout", "task_bytes most_tasks fields")
 LAYOUTS = {
-    1: Layout(17, MOST_TASKS, {"period": 1, "cost": 5, "deadline": 9, "latest": 13,
-                               "priority": 0}),
-    2: Layout(21, MOST_TASKS, {"period": 1, "cost": 5, "deadline": 9, "earliest": 13,
+    1: Layout(17, MOST_BEFORE, {"period": 1, "cost": 5, "deadline": 9, "latest": 13,
+                                "priority": 0}),
+    2: Layout(21, MOST_BEFORE, {"period": 1, "cost": 5, "deadline": 9, "earliest": 13,
+                                "latest": 17, "priority": 0}),
+    3: Layout(21, MOST_TASKS, {"period": 1, "cost": 5, "deadline": 9, "earliest": 13,
                                "latest": 17, "priority": 0}),
 }
 # The same for a row: "place, semaphore, length, then row order (at the row's first byte)".
@@ -52,7 +59,9 @@ GREATEST_SEMAPHORE = 16
 GREATEST_WORD = 2 ** 32 - 1
 # Every lent word holds this before a call, so that a word that stays can be seen to stay.
 FILLER = 0xA5A5A5A5
+# The longest slice that is lent: for version 3 as many words as an entry's byte can tell.
 LONGEST_SLICE = 40
+LONGEST_SLICES = {1: LONGEST_SLICE, 2: LONGEST_SLICE, 3: 255}
 
 # The fields as they follow each other in a record.
 Task = collections.namedtuple("Task", "priority period cost deadline earliest latest")
@@ -79,7 +88,7 @@ def big_endian(data):
 
 
 def table_length(layout, task_count, row_count):
-    # "The length is 5 + 17n + 6m"; of version 2: "Its length is 5 + 21n + 6m."
+    # "The length is 5 + 17n + 6m"; of version 2: "Its length is 5 + 21n + 6m." So is version 3's.
     return HEADER_BYTES + layout.task_bytes * task_count + ROW_BYTES * row_count
 
 
@@ -561,6 +570,7 @@ class Draft:
     def __init__(self, tasks, rows=(), version=1):
         self.version = version
         self.layout = LAYOUTS[version]
+        self.longest_slice = LONGEST_SLICES[version]
         self.tasks = list(tasks)
         self.rows = list(rows)
         self.task_count = len(self.tasks)
@@ -849,29 +859,32 @@ def loads_of(tasks, rows):
 
 def exact_entry(data):
     """Slices of exactly n words, where the bytes have an n."""
-    count = min(data[3], LONGEST_SLICE) if len(data) > 3 else 1
+    if len(data) <= TASK_COUNT_BYTE:
+        return Entry(data, 1, 1)
+    count = min(data[TASK_COUNT_BYTE], LONGEST_SLICES.get(data[0], LONGEST_SLICE))
     return Entry(data, count, count)
 
 
-def slices_for(generator, count):
+def slices_for(generator, count, longest):
     """Mostly n words, else longer, else one or both too short (refusal 8)."""
     kind = generator.below(10)
     if kind < 6:
         return count, count
     if kind < 8:
-        return (generator.between(count, LONGEST_SLICE), generator.between(count, LONGEST_SLICE))
+        return generator.between(count, longest), generator.between(count, longest)
     short = generator.below(count)
-    enough = generator.between(count, LONGEST_SLICE)
+    enough = generator.between(count, longest)
     return generator.pick([(short, enough), (enough, short), (short, short)])
 
 
 def made_entry(generator, tasks, rows, version=1):
-    return Entry(Draft(tasks, rows, version).data(), *slices_for(generator, len(tasks)))
+    lengths = slices_for(generator, len(tasks), LONGEST_SLICES[version])
+    return Entry(Draft(tasks, rows, version).data(), *lengths)
 
 
 def answered_entry(generator, tasks, rows, version=1):
     """With slices that are long enough."""
-    lengths = [generator.pick([len(tasks), LONGEST_SLICE]) for _ in range(2)]
+    lengths = [generator.pick([len(tasks), LONGEST_SLICES[version]]) for _ in range(2)]
     return Entry(Draft(tasks, rows, version).data(), *lengths)
 
 
@@ -983,14 +996,14 @@ def deadline_entries(generator, how_many, version=1, make=any_small_table):
 
 def size_entries(generator):
     """Every n from 1 to 32, and every m from 0 to 64."""
-    for count in list(range(1, MOST_TASKS + 1)) * 2:
+    for count in list(range(1, MOST_BEFORE + 1)) * 2:
         row_count = generator.between(0, min(8, 2 * count))
         yield answered_entry(generator, *made_table(generator, count, row_count, 50 * count))
     for row_count in range(MOST_ROWS + 1):
         fewest = max(1, rounded_up(row_count, GREATEST_SEMAPHORE))
-        count = generator.pick([fewest, fewest + 1, min(MOST_TASKS, 3 * fewest)])
+        count = generator.pick([fewest, fewest + 1, min(MOST_BEFORE, 3 * fewest)])
         yield answered_entry(generator, *made_table(generator, count, row_count, 200))
-    largest = made_table(generator, MOST_TASKS, MOST_ROWS, GREATEST_TICKS)
+    largest = made_table(generator, MOST_BEFORE, MOST_ROWS, GREATEST_TICKS)
     yield answered_entry(generator, *largest)
 
 
@@ -1039,10 +1052,10 @@ def greatest_tables():
     for period in (1, 2, top):
         for jitter in (0, top):
             tasks = [Task(end - place, period, top, period, 0, jitter)
-                     for place in range(MOST_TASKS - 1)]
+                     for place in range(MOST_BEFORE - 1)]
             tasks.append(Task(1, top, 1, top, 0, 0))
             yield Draft(tasks).data()
-    tasks = [Task(end - place, top, top, top, 0, 0) for place in range(MOST_TASKS)]
+    tasks = [Task(end - place, top, top, top, 0, 0) for place in range(MOST_BEFORE)]
     rows = [Row(place, semaphore, top) for place in range(4)
             for semaphore in range(1, GREATEST_SEMAPHORE + 1)]
     yield Draft(tasks, rows).data()
@@ -1123,7 +1136,8 @@ def length_fault(stated=0, lent=0, task_count=0, row_count=0):
         draft.lent_length += lent
         draft.task_count += task_count
         draft.row_count += row_count
-        in_range = 1 <= draft.task_count <= MOST_TASKS and 0 <= draft.row_count <= MOST_ROWS
+        in_range = (1 <= draft.task_count <= draft.layout.most_tasks
+                    and 0 <= draft.row_count <= MOST_ROWS)
         return ASKED_BY_LENGTH if in_range and draft.lent_length >= HEADER_BYTES else None
     return spoil
 
@@ -1239,8 +1253,10 @@ PLACE_AND_LENGTH = row_fault(place=lambda draft, row: len(draft.tasks),
                              length=lambda draft, row: 0)
 
 # By version, for each delay that a record has.
-DELAY_FAULTS = {1: [LATEST_FAULTS], 2: [EARLIEST_FAULTS, LATEST_FAULTS + [crossed_delays]]}
-OTHER_VERSIONS = {1: (0, 2, 255), 2: (0, 1, 3, 255)}
+DELAY_FAULTS = {1: [LATEST_FAULTS], 2: [EARLIEST_FAULTS, LATEST_FAULTS + [crossed_delays]],
+                3: [EARLIEST_FAULTS, LATEST_FAULTS + [crossed_delays]]}
+# Under which a table is refused; as few tasks as are spoiled are right in versions 2 and 3 alike.
+OTHER_VERSIONS = {1: (0, 2, 255), 2: (0, 1, 9, 255), 3: (0, 1, 4, 255)}
 
 
 def length_faults(task_size):
@@ -1256,7 +1272,8 @@ def faults_by_refusal(version):
     return [
         [cut_fault(0), cut_fault(1), cut_fault(4)],
         [version_fault(value) for value in OTHER_VERSIONS[version]],
-        [count_fault("task_count", value) for value in (0, 33, 255)]
+        [count_fault("task_count", value)
+         for value in (0, LAYOUTS[version].most_tasks + 1, 255)]
         + [count_fault("row_count", value) for value in (65, 255)],
         length_faults(LAYOUTS[version].task_bytes),
         PERIOD_FAULTS + [period_below_deadline] + COST_FAULTS + DEADLINE_FAULTS
@@ -1280,7 +1297,7 @@ def sound_draft(generator, version=1, make=made_table):
 
 
 def spoiled_entry(generator, draft, refusals):
-    lengths = slices_for(generator, len(draft.tasks))
+    lengths = slices_for(generator, len(draft.tasks), draft.longest_slice)
     return Spoiled(Entry(draft.data(), *lengths), refusals)
 
 
@@ -1364,7 +1381,7 @@ def junk_tables(generator, how_many, version=1):
 
 def long_tables(generator):
     """Lengths above 933, the longest table of version 1 itself among them."""
-    largest = Draft(*made_table(generator, MOST_TASKS, MOST_ROWS, 3000)).data()
+    largest = Draft(*made_table(generator, MOST_BEFORE, MOST_ROWS, 3000)).data()
     yield largest
     for length in (934, 935, 1000, 1500, 4590, 5000):
         yield largest.ljust(length, b"\x01")
@@ -1415,7 +1432,7 @@ def made_entries(generator):
     for data in junk_tables(generator, 70):
         yield Entry(data, *generator.pick([(3, 3), (40, 40), (0, 0)]))
     for data in long_tables(generator):
-        yield Entry(data, MOST_TASKS, LONGEST_SLICE)
+        yield Entry(data, MOST_BEFORE, LONGEST_SLICE)
     yield from slice_entries()
 
 
@@ -1437,7 +1454,7 @@ def plain_tasks(generator, count, scale):
 
 def plain_size_entries(generator):
     """Every n from 1 to 32, once schedulable and once late."""
-    for count in range(1, MOST_TASKS + 1):
+    for count in range(1, MOST_BEFORE + 1):
         for wanted in (True, False):
             tasks = plain_tasks(generator, count, 15 * count)
             while is_schedulable(tasks, []) != wanted:
@@ -1491,12 +1508,12 @@ def every_tick_tables():
                     ((40, 1, 40), (1, 1, 1)), ((40, 39, 40), (1, 1, 1), (50, 1, 50)),
                     ((40, 1, 40), (50, 2, 50), (1, 1, 1)), ((2, 1, 2), (1, 1, 1), (40, 1, 40))):
         yield Draft(listed(*entries)).data()
-    yield Draft(listed(*[(1, 1, 1)] * MOST_TASKS)).data()
-    yield Draft(listed(*([(1, 1, 1)] * (MOST_TASKS - 1) + [(2000, 1, 2000)]))).data()
+    yield Draft(listed(*[(1, 1, 1)] * MOST_BEFORE)).data()
+    yield Draft(listed(*([(1, 1, 1)] * (MOST_BEFORE - 1) + [(2000, 1, 2000)]))).data()
     # The last of 32 tasks is served last, and in time; then one tick late.
-    for deadline in (MOST_TASKS, MOST_TASKS - 1):
+    for deadline in (MOST_BEFORE, MOST_BEFORE - 1):
         last = [(100, 1, deadline)]
-        yield Draft(listed(*([(100, 1, 100)] * (MOST_TASKS - 1) + last))).data()
+        yield Draft(listed(*([(100, 1, 100)] * (MOST_BEFORE - 1) + last))).data()
     # 1,000,000 ticks in one job, and one tick more.
     yield Draft(listed((1000000, 1000000, 1000000))).data()
     yield Draft(listed((1000000, 999999, 1000000), (1000000, 1, 1000000))).data()
@@ -1524,16 +1541,16 @@ def unplayable_drafts():
     yield draft
     draft = Draft(listed(*entries), listed_rows((2, 16, 5)))
     yield draft
-    whole = listed(*[(1000, 1, 1000)] * MOST_TASKS)
+    whole = listed(*[(1000, 1, 1000)] * MOST_BEFORE)
     draft = Draft(whole)
-    draft.change_task(MOST_TASKS - 1, latest=1)
+    draft.change_task(MOST_BEFORE - 1, latest=1)
     yield draft
-    yield Draft(whole, [Row(place, 1 + half, 1) for place in range(MOST_TASKS)
+    yield Draft(whole, [Row(place, 1 + half, 1) for place in range(MOST_BEFORE)
                         for half in range(2)])
 
 
 def engine_slice_entries():
-    plain = Draft(listed(*[(1000, 1, 1000)] * MOST_TASKS))
+    plain = Draft(listed(*[(1000, 1, 1000)] * MOST_BEFORE))
     for draft in [Draft(listed(*FIFTH[:2])), plain] + list(unplayable_drafts()):
         for lengths in slice_pairs(len(draft.tasks)):
             yield Entry(draft.data(), *lengths)
@@ -1636,10 +1653,11 @@ def spoiled_table(generator, version, count, row_count, *faults, make=made_table
 def wrong_counts(version):
     """As many records and rows as n and m say, and each length right, but n, m or both out of
     range."""
+    most = LAYOUTS[version].most_tasks
     for task_count, row_count, field in (
             (0, 0, "task_count"), (0, 64, "task_count"), (0, 65, "task_count"),
-            (33, 0, "task_count"), (33, 64, "task_count"), (33, 65, "task_count"),
-            (1, 65, "row_count"), (32, 65, "row_count")):
+            (most + 1, 0, "task_count"), (most + 1, 64, "task_count"),
+            (most + 1, 65, "task_count"), (1, 65, "row_count"), (most, 65, "row_count")):
         tasks = listed(*[(100, 1, 100)] * task_count)
         draft = Draft(tasks, [Row(0, 1, 1)] * row_count, version)
         yield Spoiled(exact_entry(draft.data()), [ASKED_BY_COUNT[field]])
@@ -1796,8 +1814,9 @@ def placed_faults(generator):
     yield from field_faults(generator)
     yield from neighbour_faults(generator)
     yield from distant_faults(generator)
-    yield from far_faults(generator, 1, [(MOST_TASKS, MOST_ROWS), (MOST_TASKS, 0), (MOST_TASKS, 1),
-                                         (4, MOST_ROWS), (1, GREATEST_SEMAPHORE)])
+    yield from far_faults(generator, 1, [(MOST_BEFORE, MOST_ROWS), (MOST_BEFORE, 0),
+                                         (MOST_BEFORE, 1), (4, MOST_ROWS),
+                                         (1, GREATEST_SEMAPHORE)])
 
 
 def place_entries(generator):
@@ -1891,7 +1910,7 @@ def version_edges():
     """Heads and bodies of different versions, with the text that each must get."""
     sections = listed(*SECTIONS), listed_rows(*SECTION_ROWS)
     first, second = (Draft(*sections, version).data() for version in (1, 2))
-    for version in (0, 3, 4, 255):
+    for version in (0, 9, 4, 255):
         yield bytes([version]) + second[1:], "refused 2 at 0\n"
         yield bytes([version, 0, 5, 33, 65]), "refused 2 at 0\n"
     yield bytes([2, 0, 5, 1]), "refused 1 at 0\n"
@@ -1955,14 +1974,14 @@ def delay_faults(generator):
     yield from task_tails(generator, 2)
     yield from following_faults(generator)
     yield from task_and_row_faults(generator, 2)
-    yield from far_faults(generator, 2, [(MOST_TASKS, MOST_ROWS)])
+    yield from far_faults(generator, 2, [(MOST_BEFORE, MOST_ROWS)])
 
 
 def greatest_delay_tables():
     """The largest sums with delays, and some that look right to words that are too narrow."""
     top = GREATEST_TICKS
     for period, delays in itertools.product((1, top), ((0, top), (top - 1, top), (top, top))):
-        short = [(period, top, period) + delays] * (MOST_TASKS - 1)
+        short = [(period, top, period) + delays] * (MOST_BEFORE - 1)
         yield Draft(listed(*short, (top, 1, top)), version=2).data()
     for earliest in (0, 1, 500, 900000):
         # One load of 65536 times 65536, which is 2^32: cut to 32 bits, demand is the cost.
@@ -1975,7 +1994,7 @@ def greatest_delay_tables():
 
 def long_delay_tables(generator):
     """Lengths about 1,061, the longest table of version 2, and about 933, that of version 1."""
-    largest = Draft(*made_table(generator, MOST_TASKS, MOST_ROWS, 3000, 2), 2).data()
+    largest = Draft(*made_table(generator, MOST_BEFORE, MOST_ROWS, 3000, 2), 2).data()
     yield largest
     for length in (1060, 933, 934):
         yield largest[:length]
@@ -1993,14 +2012,14 @@ def twin_entries(generator, how_many):
         yield exact_entry(Draft(table.tasks, table.rows, 2).data())
     for _ in range(how_many):
         tasks, rows = any_small_table(generator)
-        lengths = slices_for(generator, len(tasks))
+        lengths = slices_for(generator, len(tasks), LONGEST_SLICE)
         for version in (1, 2):
             yield Entry(Draft(tasks, rows, version).data(), *lengths)
 
 
 def delay_size_entries(generator):
     """Every n from 1 to 32, and some m up to 64."""
-    for count in range(1, MOST_TASKS + 1):
+    for count in range(1, MOST_BEFORE + 1):
         tasks, rows = made_table(generator, count, generator.between(0, 2 * count), 50 * count, 2)
         yield answered_entry(generator, tasks, rows, 2)
     for row_count in (16, 33, 63, MOST_ROWS):
@@ -2010,14 +2029,14 @@ def delay_size_entries(generator):
 def playable_delay_entries(generator):
     """Version 2 for the engine: all delays 0, as many schedulable as late; and a single delay, a
     constant one too, which gets 9, or 8 where the slice is short."""
-    for count, wanted in itertools.product((1, 2, 3, 5, 8, 13, 31, MOST_TASKS), (True, False)):
+    for count, wanted in itertools.product((1, 2, 3, 5, 8, 13, 31, MOST_BEFORE), (True, False)):
         tasks = plain_tasks(generator, count, 15 * count)
         while is_schedulable(tasks, []) != wanted:
             tasks = plain_tasks(generator, count, 15 * count)
         yield answered_entry(generator, tasks, [], 2)
     top = GREATEST_TICKS
     for count, number, delays in ((1, 0, (1, 1)), (3, 0, (1, 1)), (3, 2, (1, 1)), (3, 1, (0, 1)),
-                                  (3, 2, (top, top)), (MOST_TASKS, MOST_TASKS - 1, (1, 1))):
+                                  (3, 2, (top, top)), (MOST_BEFORE, MOST_BEFORE - 1, (1, 1))):
         draft = Draft(listed(*[(1000, 1, 1000)] * count), version=2)
         draft.change_task(number, earliest=delays[0], latest=delays[1])
         for lengths in ((count, 0), (count, count), (count - 1, count)):
@@ -2102,7 +2121,7 @@ def settled_entries(generator, how_many, version):
     for _ in range(how_many):
         costs = [generator.between(1, 30) for _ in range(generator.between(2, 8))]
         latest = generator.pick([0, generator.between(0, 40)])
-        earliest = generator.between(0, latest) if version == 2 else 0
+        earliest = generator.between(0, latest) if version > 1 else 0
         # The costs, a blocking that is no longer than they are, and a delay with its spread.
         least = 2 * sum(costs) + 2 * latest
         periods = [least + generator.below(50) for _ in costs]
@@ -2155,7 +2174,7 @@ def crowding_task(generator, version):
     """Its delays let several jobs in at once."""
     period = generator.between(5, 30)
     spread = generator.between(period, 5 * period)
-    earliest = generator.below(20) if version == 2 else 0
+    earliest = generator.below(20) if version > 1 else 0
     return period, generator.between(1, 3), period, earliest, earliest + spread
 
 
@@ -2200,16 +2219,16 @@ def exact_deadline_entries(generator, how_many, version, make=any_small_table):
 
 def start_size_entries(generator):
     """Every n from 1 to 32, and some m up to 64, in turn in both versions."""
-    for count in range(1, MOST_TASKS + 1):
+    for count in range(1, MOST_BEFORE + 1):
         version = 1 + count % 2
         row_count = generator.between(0, min(8, 2 * count))
         tasks, rows = made_table(generator, count, row_count, 50 * count, version)
         yield answered_entry(generator, tasks, rows, version)
-    for version, row_count in itertools.product(LAYOUTS, (16, 33, 63, MOST_ROWS)):
+    for version, row_count in itertools.product(VERSIONS_BEFORE, (16, 33, 63, MOST_ROWS)):
         tasks, rows = made_table(generator, 8, row_count, 400, version)
         yield answered_entry(generator, tasks, rows, version)
-    for version in LAYOUTS:
-        tasks, rows = made_table(generator, MOST_TASKS, MOST_ROWS, GREATEST_TICKS, version)
+    for version in VERSIONS_BEFORE:
+        tasks, rows = made_table(generator, MOST_BEFORE, MOST_ROWS, GREATEST_TICKS, version)
         yield answered_entry(generator, tasks, rows, version)
 
 
@@ -2226,18 +2245,18 @@ def bound_tables():
 def greatest_start_tables():
     """The greatest starts; and starts that are 1,000,000 ticks, with the delay, or one more."""
     top = GREATEST_TICKS
-    rows = [Row(place, semaphore, top) for place in range(MOST_TASKS - 4, MOST_TASKS)
+    rows = [Row(place, semaphore, top) for place in range(MOST_BEFORE - 4, MOST_BEFORE)
             for semaphore in range(1, GREATEST_SEMAPHORE + 1)]
-    for version, latest in itertools.product(LAYOUTS, (0, top)):
-        whole = listed(*[(top, top, top, 0, latest)] * MOST_TASKS)
+    for version, latest in itertools.product(VERSIONS_BEFORE, (0, top)):
+        whole = listed(*[(top, top, top, 0, latest)] * MOST_BEFORE)
         yield Draft(whole, version=version).data()
         yield Draft(whole, rows, version).data()
     for latest, more in itertools.product((0, 64000), (0, 1)):
-        share = (top - latest) // MOST_TASKS
-        shares = [(top, share, top, latest // 2, latest)] * (MOST_TASKS - 1)
+        share = (top - latest) // MOST_BEFORE
+        shares = [(top, share, top, latest // 2, latest)] * (MOST_BEFORE - 1)
         yield Draft(listed(*shares, (top, share + more, top, 0, latest)), version=2).data()
         # The last but one has the last one's section for the last one's cost.
-        sections = listed_rows((0, 1, 1), (MOST_TASKS - 1, 1, share + more))
+        sections = listed_rows((0, 1, 1), (MOST_BEFORE - 1, 1, share + more))
         yield Draft(listed(*shares, (top, top, top, 0, 0)), sections, 2).data()
 
 
@@ -2249,7 +2268,7 @@ def start_slice_entries():
 
 def in_both_versions(tables):
     """In version 1 with the latest delay alone."""
-    for table, version in itertools.product(tables, LAYOUTS):
+    for table, version in itertools.product(tables, VERSIONS_BEFORE):
         tasks = table.tasks
         if version == 1:
             tasks = [task._replace(earliest=0) for task in tasks]
@@ -2258,7 +2277,7 @@ def in_both_versions(tables):
 
 def start_entries(generator):
     yield from in_both_versions(START_TABLES)
-    for version in LAYOUTS:
+    for version in VERSIONS_BEFORE:
         yield from lone_entries(generator, 4, version)
         yield from settled_entries(generator, 10, version)
         yield from about_starts(generator, 6, version)
@@ -2314,10 +2333,10 @@ GROUP_TABLES = [
     worked([(30, 10, 30), (20, 8, 20, 0, 3)], [26, 0], rounds=[2, 1], own_rounds=[3, 1],
            groups=(2,)),
     # All in one group.
-    worked([(100, 1, 32)] * MOST_TASKS, [32] * MOST_TASKS, rounds=[1] * MOST_TASKS,
-           own_rounds=[2] * MOST_TASKS, groups=(MOST_TASKS,)),
-    worked([(100, 1, 31)] * MOST_TASKS, [0] * MOST_TASKS, rounds=[1] * MOST_TASKS,
-           own_rounds=[1] * MOST_TASKS, groups=(MOST_TASKS,)),
+    worked([(100, 1, 32)] * MOST_BEFORE, [32] * MOST_BEFORE, rounds=[1] * MOST_BEFORE,
+           own_rounds=[2] * MOST_BEFORE, groups=(MOST_BEFORE,)),
+    worked([(100, 1, 31)] * MOST_BEFORE, [0] * MOST_BEFORE, rounds=[1] * MOST_BEFORE,
+           own_rounds=[1] * MOST_BEFORE, groups=(MOST_BEFORE,)),
 ]
 
 GROUPS_TEXT = """tasks 3
@@ -2353,7 +2372,7 @@ def group_edges():
 def three_priorities():
     """All priorities of these in three records: the first that is 0 or rises is refused."""
     starts = {1: (5, 22, 39), 2: (5, 26, 47)}
-    for version in LAYOUTS:
+    for version in VERSIONS_BEFORE:
         for priorities in itertools.product((0, 1, 2, GREATEST_PRIORITY), repeat=3):
             tasks = with_priorities(listed(*FIFTH), priorities)
             faulty = [start for start, priority, before
@@ -2413,14 +2432,14 @@ def regrouped(generator, entries):
 def group_size_entries(generator):
     """Every n from 2 to 32, in turn in both versions; then 32 tasks and 64 rows, in groups of one
     size."""
-    for count in range(2, MOST_TASKS + 1):
+    for count in range(2, MOST_BEFORE + 1):
         version = 1 + count % 2
         row_count = generator.between(0, min(8, 2 * count))
         tasks, rows = made_tied_table(generator, count, row_count, 50 * count, version)
         yield answered_entry(generator, tasks, rows, version)
-    for version, size in itertools.product(LAYOUTS, (2, 4, 8, 16, MOST_TASKS)):
-        tasks, rows = made_table(generator, MOST_TASKS, MOST_ROWS, 3000, version)
-        tasks = in_groups(tasks, *[size] * (MOST_TASKS // size))
+    for version, size in itertools.product(VERSIONS_BEFORE, (2, 4, 8, 16, MOST_BEFORE)):
+        tasks, rows = made_table(generator, MOST_BEFORE, MOST_ROWS, 3000, version)
+        tasks = in_groups(tasks, *[size] * (MOST_BEFORE // size))
         yield answered_entry(generator, tasks, rows, version)
 
 
@@ -2445,7 +2464,7 @@ def group_row_faults(generator, version):
 
 
 def group_faults(generator):
-    for version in LAYOUTS:
+    for version in VERSIONS_BEFORE:
         yield from group_priority_faults(generator, version)
         yield from group_row_faults(generator, version)
         yield from task_and_row_faults(generator, version, made_tied_table)
@@ -2454,21 +2473,21 @@ def group_faults(generator):
 def greatest_group_tables():
     """The largest sums, and some that look right to words that are too narrow, with loads before
     the task and behind it."""
-    top, others = GREATEST_TICKS, MOST_TASKS - 1
+    top, others = GREATEST_TICKS, MOST_BEFORE - 1
     for period, jitter in itertools.product((1, top), (0, top)):
         loads = [(period, top, period, jitter)] * others
-        yield Draft(in_groups(listed(*loads, (top, 1, top)), MOST_TASKS)).data()
-        yield Draft(in_groups(listed((top, 1, top), *loads), MOST_TASKS)).data()
+        yield Draft(in_groups(listed(*loads, (top, 1, top)), MOST_BEFORE)).data()
+        yield Draft(in_groups(listed((top, 1, top), *loads), MOST_BEFORE)).data()
     for cost in (1, 7, 40000):
         # One load of 65536 times 65536, which is 2^32: cut to 32 bits, demand is the cost.
         load, task = (1, 65536, 1, 65536 - cost), (top, cost, top)
         for entries in ((load, task), (task, load)):
             yield Draft(in_groups(listed(*entries), 2)).data()
     # 1,000,000 ticks together, and one more.
-    share = top // MOST_TASKS
+    share = top // MOST_BEFORE
     for more in (0, 1):
         tasks = listed((top, share + more, top), *[(top, share, top)] * others)
-        yield Draft(in_groups(tasks, MOST_TASKS)).data()
+        yield Draft(in_groups(tasks, MOST_BEFORE)).data()
 
 
 def slow_group_tables():
@@ -2481,13 +2500,13 @@ def slow_group_tables():
 def engine_group_entries():
     """Two equal tasks at the start, in the middle and at the end: the engine refuses them, with 8
     where its slice is short; and delays, rows and a wrong row beside them."""
-    for version, count in itertools.product(LAYOUTS, (2, 3, 8, MOST_TASKS)):
+    for version, count in itertools.product(VERSIONS_BEFORE, (2, 3, 8, MOST_BEFORE)):
         for before in ends_of(count - 1):
             sizes = [1] * before + [2] + [1] * (count - before - 2)
             tasks = in_groups(listed(*[(1000, 1, 1000)] * count), *sizes)
             for lengths in ((count, 0), (count, count), (count - 1, count)):
                 yield Entry(Draft(tasks, version=version).data(), *lengths)
-    for version in LAYOUTS:
+    for version in VERSIONS_BEFORE:
         draft = Draft(in_groups(listed(*[(1000, 2, 1000)] * 3), 1, 2), version=version)
         draft.change_task(1, latest=1)
         yield exact_entry(draft.data())
@@ -2508,7 +2527,7 @@ def group_entries(generator):
         yield exact_entry(data)
     for spoiled in group_faults(generator):
         yield spoiled.entry
-    for version in LAYOUTS:
+    for version in VERSIONS_BEFORE:
         for spoiled in two_faults(generator, 40, version, made_tied_table):
             yield spoiled.entry
         yield from small_entries(generator, 150, version, any_tied_table)
@@ -2620,18 +2639,18 @@ PAST_TABLES = [
     worked_past([(500000, 507812, 1000000)], [OPEN], [64]),
     worked_past([(500000, 507813, 1000000)], [LATE], [64]),
     worked_past([(1000000, 1000000, 1000000)], [1000000], [1]),
-    worked_past([(1000000, 1000000, 1000000)] * MOST_TASKS, [1000000] + [LATE] * 31,
-                [1] * MOST_TASKS),
-    worked_past([(1000000, 31250, 1000000)] * MOST_TASKS, [31250 * n for n in range(1, 33)],
-                [1] * MOST_TASKS),
+    worked_past([(1000000, 1000000, 1000000)] * MOST_BEFORE, [1000000] + [LATE] * 31,
+                [1] * MOST_BEFORE),
+    worked_past([(1000000, 31250, 1000000)] * MOST_BEFORE, [31250 * n for n in range(1, 33)],
+                [1] * MOST_BEFORE),
     # The last one has to wait for two jobs of each: 492,219, and 16 more for each q.
-    worked_past([(250000, 7813, 1000000)] * MOST_TASKS, [7813 * n for n in range(1, 32)] + [OPEN],
+    worked_past([(250000, 7813, 1000000)] * MOST_BEFORE, [7813 * n for n in range(1, 32)] + [OPEN],
                 [1] * 31 + [64]),
-    worked_past([(250000, 7813, 492234)] * MOST_TASKS, [7813 * n for n in range(1, 32)] + [LATE],
+    worked_past([(250000, 7813, 492234)] * MOST_BEFORE, [7813 * n for n in range(1, 32)] + [LATE],
                 [1] * 31 + [2]),
     # With one priority for all each of them is open: 63,000, and one tick more for each q.
-    worked_past([(31999, 1000, 127996)] * MOST_TASKS, [OPEN] * MOST_TASKS, [64] * MOST_TASKS,
-                groups=(MOST_TASKS,)),
+    worked_past([(31999, 1000, 127996)] * MOST_BEFORE, [OPEN] * MOST_BEFORE, [64] * MOST_BEFORE,
+                groups=(MOST_BEFORE,)),
 ]
 
 # What the program prints, by the number of the table.
@@ -2679,7 +2698,7 @@ def deadline_edges():
 
 def past_edges():
     """Each with the second analysis's text that it must get (None: any answer but a refusal)."""
-    for version in LAYOUTS:
+    for version in VERSIONS_BEFORE:
         for period, deadline, byte in deadline_edges():
             text = None if byte is None else "refused 5 at %d\n" % byte
             yield Draft(listed((period, 3, deadline)), version=version).data(), text
@@ -2706,7 +2725,8 @@ def delayed(earliest, latest):
 
 # By version: one delay, a constant one, a span.
 GIVEN_DELAYS = {1: [(0, 1), (0, GREATEST_TICKS)],
-                2: [(0, 1), (1, 1), (2, 7), (0, GREATEST_TICKS), (GREATEST_TICKS, GREATEST_TICKS)]}
+                2: [(0, 1), (1, 1), (2, 7), (0, GREATEST_TICKS), (GREATEST_TICKS, GREATEST_TICKS)],
+                3: [(0, 1), (1, 1), (GREATEST_TICKS, GREATEST_TICKS)]}
 
 
 def period_below_quarter(draft, number):
@@ -2922,8 +2942,8 @@ def buffer_tasks(count, percent):
 
 def buffer_entries(generator):
     """In turn plain, with rows and in groups."""
-    kinds = itertools.cycle(itertools.product(("plain", "rows", "groups"), LAYOUTS))
-    for count, percent in itertools.product((2, 4, 8, 16, 24, 31, MOST_TASKS),
+    kinds = itertools.cycle(itertools.product(("plain", "rows", "groups"), VERSIONS_BEFORE))
+    for count, percent in itertools.product((2, 4, 8, 16, 24, 31, MOST_BEFORE),
                                             (85, 90, 95, 98, 100, 101)):
         kind, version = next(kinds)
         tasks = buffer_tasks(count, percent)
@@ -2936,16 +2956,16 @@ def buffer_entries(generator):
 
 def past_size_entries(generator):
     """Every n from 1 to 32, in turn in both versions; then several m up to 64."""
-    for count in range(1, MOST_TASKS + 1):
+    for count in range(1, MOST_BEFORE + 1):
         version = 1 + count % 2
         row_count = generator.between(0, min(8, 2 * count))
         tasks, rows = made_past_table(generator, count, row_count, 12 * count)
         yield answered_entry(generator, tasks, rows, version)
-    for version, row_count in itertools.product(LAYOUTS, (16, 33, 63, MOST_ROWS)):
+    for version, row_count in itertools.product(VERSIONS_BEFORE, (16, 33, 63, MOST_ROWS)):
         tasks, rows = made_past_table(generator, 8, row_count, 200)
         yield answered_entry(generator, tasks, rows, version)
-    for version in LAYOUTS:
-        tasks, rows = made_past_table(generator, MOST_TASKS, MOST_ROWS, 1000)
+    for version in VERSIONS_BEFORE:
+        tasks, rows = made_past_table(generator, MOST_BEFORE, MOST_ROWS, 1000)
         yield answered_entry(generator, tasks, rows, version)
 
 
@@ -2972,15 +2992,15 @@ def greatest_past_tables():
     """The largest sums, with loads before the task and behind it; and one that passes 2^32 so as to
     look like a solution to a program whose words are too narrow: 1 + 65536 * 65537 cut to 32 bits
     is 65537."""
-    top, others = GREATEST_TICKS, MOST_TASKS - 1
-    rows = [Row(place, semaphore, top) for place in range(MOST_TASKS - 4, MOST_TASKS)
+    top, others = GREATEST_TICKS, MOST_BEFORE - 1
+    rows = [Row(place, semaphore, top) for place in range(MOST_BEFORE - 4, MOST_BEFORE)
             for semaphore in range(1, GREATEST_SEMAPHORE + 1)]
     for period in (1, top // PERIODS_PAST, top):
         loads = [(period, top, greatest_deadline(period, PERIODS_PAST))] * others
         task = (top // PERIODS_PAST, 1, top)
         yield Draft(listed(*loads, task)).data()
-        yield Draft(in_groups(listed(*loads, task), MOST_TASKS)).data()
-        yield Draft(in_groups(listed(task, *loads), MOST_TASKS)).data()
+        yield Draft(in_groups(listed(*loads, task), MOST_BEFORE)).data()
+        yield Draft(in_groups(listed(task, *loads), MOST_BEFORE)).data()
         yield Draft(listed(task, *loads), rows, 2).data()
     yield Draft(listed((1, 65536, 4), (20000, 1, 80000))).data()
     yield Draft(in_groups(listed((20000, 1, 80000), (1, 65536, 4)), 2), version=2).data()
@@ -3019,18 +3039,19 @@ def refused_delays(generator, version):
 
 
 def spoiled_past(generator):
-    for version in LAYOUTS:
+    for version in VERSIONS_BEFORE:
         yield from past_faults(generator, version)
         yield from refused_delays(generator, version)
     # Behind 32 records and 64 rows.
-    for version, fault in itertools.product(LAYOUTS, (delayed(0, 1), PAST_DEADLINE_FAULTS[1])):
-        yield from spoiled_table(generator, version, MOST_TASKS, MOST_ROWS,
-                                 (fault, MOST_TASKS - 1), make=made_past_table)
+    faults = delayed(0, 1), PAST_DEADLINE_FAULTS[1]
+    for version, fault in itertools.product(VERSIONS_BEFORE, faults):
+        yield from spoiled_table(generator, version, MOST_BEFORE, MOST_ROWS,
+                                 (fault, MOST_BEFORE - 1), make=made_past_table)
 
 
 def past_slice_entries():
     """All pairs of slice lengths about n, with a delay and without."""
-    for version, latest in itertools.product(LAYOUTS, (0, 1)):
+    for version, latest in itertools.product(VERSIONS_BEFORE, (0, 1)):
         draft = Draft(PAST_TABLES[0].tasks, version=version)
         draft.change_task(1, latest=latest)
         for lengths in itertools.product((0, 1, 2, 3, LONGEST_SLICE), repeat=2):
@@ -3042,7 +3063,7 @@ def past_period_entries(generator):
     for data, _ in past_edges():
         yield exact_entry(data)
     yield from past_slice_entries()
-    for version in LAYOUTS:
+    for version in VERSIONS_BEFORE:
         yield from small_entries(generator, 60, version, any_past_table)
         yield from outcome_entries(generator, 8, version)
         yield from past_deadline_entries(generator, 20, version)
@@ -3257,7 +3278,7 @@ def chosen_data(generator, make, version, fits):
 def made_claim_tables(generator):
     """Small tables, without ties and with them: any, schedulable ones, and such as need their
     spreads; deadlines about the answers; numbers at their limits; more work than ticks."""
-    for version in LAYOUTS:
+    for version in VERSIONS_BEFORE:
         for make in (any_small_table, any_tied_table):
             for _ in range(11):
                 yield Draft(*make(generator, version), version).data()
@@ -3273,18 +3294,18 @@ def made_claim_tables(generator):
 
 def wide_claim_tables(generator):
     """32 tasks: late ones, and near full load, where nobody is late."""
-    for version, make in itertools.product(LAYOUTS, (made_table, made_tied_table)):
-        tasks, rows = make(generator, MOST_TASKS, generator.below(9), 50 * MOST_TASKS, version)
+    for version, make in itertools.product(VERSIONS_BEFORE, (made_table, made_tied_table)):
+        tasks, rows = make(generator, MOST_BEFORE, generator.below(9), 50 * MOST_BEFORE, version)
         yield Draft(tasks, rows, version).data()
     for row_count, version, group in ((0, 1, 1), (MOST_ROWS, 1, 1), (0, 2, 1), (MOST_ROWS, 2, 4)):
-        _, draft = loaded_draft(MOST_TASKS, row_count, [40, 50, 60, 70], version, group)
+        _, draft = loaded_draft(MOST_BEFORE, row_count, [40, 50, 60, 70], version, group)
         yield draft.data()
 
 
 def refused_claims(generator):
     """Every fault in three records or rows, with as many claims as there are tasks, and with too
     few, too many or none: refusals 1 to 7 come before 10."""
-    for version, number in itertools.product(LAYOUTS, range(3)):
+    for version, number in itertools.product(VERSIONS_BEFORE, range(3)):
         for fault in itertools.chain(*FAULTS_BY_REFUSAL[version]):
             draft = sound_draft(generator, version)
             claims = sound_claims(draft.tasks, responses_of(draft.tasks, draft.rows))
@@ -3296,21 +3317,21 @@ def refused_claims(generator):
 def greatest_claims(generator):
     """The largest sums, and such as pass 2^32: a claim of the cost alone would then pass."""
     for data in itertools.chain(greatest_tables(), wrapping_tables(), greatest_group_tables()):
-        few = data[TASK_COUNT_BYTE] < MOST_TASKS
+        few = data[TASK_COUNT_BYTE] < MOST_BEFORE
         yield from claim_lists(generator, data, None if few else 3)
 
 
 def edges_claimed(generator):
     """The edges of the documents; where n can be read, with n claims."""
     for data, _ in itertools.chain(edge_tables(), delay_edges(), version_edges()):
-        count = min(data[TASK_COUNT_BYTE], MOST_TASKS) if len(data) > TASK_COUNT_BYTE else 0
+        count = min(data[TASK_COUNT_BYTE], MOST_BEFORE) if len(data) > TASK_COUNT_BYTE else 0
         yield Claimed(data, [generator.between(1, 40) for _ in range(count)])
 
 
 def many_claims():
     """As many as an entry can have, and as many as there may be tasks, for fewer."""
     fifth = Draft(listed(*FIFTH)).data()
-    for count in (MOST_TASKS - 1, MOST_TASKS, MOST_TASKS + 1, MOST_CLAIMS):
+    for count in (MOST_BEFORE - 1, MOST_BEFORE, MOST_BEFORE + 1, MOST_CLAIMS):
         yield Claimed(fifth, [1, 3, 10] + [1] * (count - 3))
 
 
@@ -3595,14 +3616,15 @@ def check_documents(checks):
         check_printed(checks, table, "table %d with groups" % number)
     delayed = Draft(DELAY_TABLES[0].tasks, version=2).data()
     checks.same(text_of(delayed), DELAYS_TEXT, "text of the table with delays")
-    for version in LAYOUTS:
+    for version in VERSIONS_BEFORE:
         grouped = Draft(GROUP_TABLES[0].tasks, version=version).data()
         checks.same(text_of(grouped), GROUPS_TEXT, "text of the table with groups")
-    # "at most 933"; and the program takes one byte more than the longest of all.
+    # "at most 933"; "up to 4,589 bytes"; and the program takes one byte more than the longest of
+    # all.
     lengths = [longest_table(version) for version in LAYOUTS] + [MOST_BYTES_TAKEN]
-    checks.same(lengths, [933, 1061, 1062], "longest tables")
+    checks.same(lengths, [933, 1061, 4589, 4590], "longest tables")
     for number, data in enumerate(wrapping_tables()):
-        responses = responses_of(*read_table(data, MOST_TASKS, MOST_TASKS))
+        responses = responses_of(*read_table(data, MOST_BEFORE, MOST_BEFORE))
         checks.same(responses[-1], 0, "wrapping table %d" % number)
     edges = itertools.chain(edge_tables(), place_edges(), delay_edges(), version_edges(),
                             group_edges())
@@ -3654,7 +3676,7 @@ def check_faults(checks):
     generator = Generator(SEED + 8)
     for spoiled in group_faults(generator):
         check_first(spoiled, "groups")
-    for version in LAYOUTS:
+    for version in VERSIONS_BEFORE:
         for spoiled in two_faults(generator, 300, version, made_tied_table):
             check_two(spoiled, "two faults with groups")
     for spoiled in spoiled_past(Generator(SEED + 11)):
@@ -3975,7 +3997,7 @@ def check_past_classes(checks):
             lines = past_text_of(measured.data).splitlines()
             checks.same(lines[-1], wanted.get(measured.name, "schedulable"), measured.title)
         if "-buffers-" in measured.name:
-            tasks, rows = read_past(measured.data, MOST_TASKS, MOST_TASKS)
+            tasks, rows = read_past(measured.data, MOST_BEFORE, MOST_BEFORE)
             checks.same(schedulable_past(tasks, all_found_past(tasks, rows)), True, measured.title)
 
 
@@ -4023,7 +4045,7 @@ def check_engine_edges(checks):
             (sections, (4, 3), "refused 9 at 0"),
             (sections, (3, 4), "refused 8 at 0"),
             (WORKED_TABLES[7], (40, 0), "late 2")):
-        for version in LAYOUTS:
+        for version in VERSIONS_BEFORE:
             entry = Entry(Draft(table.tasks, table.rows, version).data(), *lengths)
             checks.same(engine_line(entry), wanted, "engine with slices of %d and %d" % lengths)
     # "L1's engine refuses ties with 9", wherever they stand, and after 8.
@@ -4120,12 +4142,12 @@ def tiny_table(generator, version):
 def check_claims(checks, claimed):
     """Gives how many of the made lists pass."""
     for table, claims, wanted in CLAIM_EXAMPLES:
-        for version in LAYOUTS:
+        for version in VERSIONS_BEFORE:
             data = Draft(table.tasks, table.rows, version).data()
             checks.same(claimed_line(data, claims), wanted,
                         "claims %r of %r" % (claims, table.tasks))
     generator = Generator(SEED + 10)
-    for _, version in itertools.product(range(150), LAYOUTS):
+    for _, version in itertools.product(range(150), VERSIONS_BEFORE):
         check_every_claim(checks, *tiny_table(generator, version), version)
     passing = [each for each in claimed if claimed_line(*each) == "pass"]
     # Both kinds turn up: the true answers, and others.
@@ -4398,7 +4420,7 @@ def load_classes():
 def crowded_tasks(periods):
     """Tasks of cost 1 with these periods, above as many as there is room for with the longest."""
     short = [(period, 1, period) for period in periods]
-    long = [(GREATEST_TICKS, 1, GREATEST_TICKS)] * (MOST_TASKS - len(short))
+    long = [(GREATEST_TICKS, 1, GREATEST_TICKS)] * (MOST_BEFORE - len(short))
     return listed(*(short + long))
 
 
@@ -4422,7 +4444,7 @@ def once_slowest_group_table():
     priority: 85,157,620 loads, of which 33,281,628 needed a divide."""
     tasks = crowded_tasks((2, 3, 11, 14, 236, 33040, 59107, 152549, 265660, 423753, 434143, 441049,
                            464787, 967704, 970178))
-    return Draft(in_groups(tasks, MOST_TASKS)).data()
+    return Draft(in_groups(tasks, MOST_BEFORE)).data()
 
 
 def slowest_table():
@@ -4435,11 +4457,11 @@ def slowest_group_table():
     """The same, where all tasks share one priority."""
     tasks = crowded_tasks((468053, 152574, 236, 59309, 424177, 976419, 272160, 441050, 11, 434141,
                            970177, 33070, 14, 3, 2))
-    return Draft(in_groups(tasks, MOST_TASKS)).data()
+    return Draft(in_groups(tasks, MOST_BEFORE)).data()
 
 
 def refusal_classes():
-    last_task, last_row = MOST_TASKS - 1, MOST_ROWS - 1
+    last_task, last_row = MOST_BEFORE - 1, MOST_ROWS - 1
     for title, fault, number in (
             ("1", cut_fault(4), 0),
             ("2", version_fault(255), 0),
@@ -4451,7 +4473,7 @@ def refusal_classes():
             ("6, last task", priority_fault(lambda before: 0), last_task),
             ("7, first row", row_fault(length=lambda draft, row: 0), 0),
             ("7, last row", row_fault(length=lambda draft, row: 0), last_row)):
-        _, draft = loaded_draft(MOST_TASKS, MOST_ROWS, [30])
+        _, draft = loaded_draft(MOST_BEFORE, MOST_ROWS, [30])
         fault(draft, number)
         name = "refusal-" + title.replace(",", "").replace(" ", "-")
         yield Measured(name, 100, 200, "refusal " + title, draft.data())
@@ -4459,10 +4481,10 @@ def refusal_classes():
 
 def delay_classes():
     """Version 2."""
-    for count in (1, 8, MOST_TASKS):
+    for count in (1, 8, MOST_BEFORE):
         yield load_class(count, 0, "near full load", range(50, 101), 2)
-    _, draft = loaded_draft(MOST_TASKS, MOST_ROWS, [30], 2)
-    LATEST_FAULTS[0](draft, MOST_TASKS - 1)
+    _, draft = loaded_draft(MOST_BEFORE, MOST_ROWS, [30], 2)
+    LATEST_FAULTS[0](draft, MOST_BEFORE - 1)
     yield Measured("refusal-5-last-latest", 100, 200, "refusal 5, last task's latest delay",
                    draft.data())
 
@@ -4471,10 +4493,10 @@ def group_classes():
     """Equal priorities: groups of 4 tasks, one priority for all, and the slowest. With one priority
     the shorter tasks are late: where nobody is, no period is below the sum of all costs, and each
     task takes one round."""
-    percent, draft = loaded_draft(MOST_TASKS, 0, range(50, 101), group=4)
+    percent, draft = loaded_draft(MOST_BEFORE, 0, range(50, 101), group=4)
     yield Measured("32-groups", 100, 200, "32 tasks in 8 groups, near full load (%d%%)" % percent,
                    draft.data())
-    draft = Draft(in_groups(loaded_tasks(MOST_TASKS, 30), MOST_TASKS))
+    draft = Draft(in_groups(loaded_tasks(MOST_BEFORE, 30), MOST_BEFORE))
     yield Measured("32-one-priority", 100, 200, "32 tasks of one priority, light (30%)",
                    draft.data())
     yield Measured("once-slowest-one-priority", 1, 2,
@@ -4514,17 +4536,17 @@ def slowest_past_group_table():
     """The same, where all tasks share one priority, so that the load is that near 1 for all of
     them: 27 are open, after some 98 million rounds, which come by 3,053 million loads."""
     tasks = lasting_tasks([504503] * 27 + [234, 11, 14, 3, 2], 0)
-    return Draft(in_groups(tasks, MOST_TASKS)).data()
+    return Draft(in_groups(tasks, MOST_BEFORE)).data()
 
 
 def buffer_classes():
     yield Measured("1-buffer", 100, 200, "1 task with buffers, load 0.90",
                    Draft(buffer_tasks(1, 90)).data())
-    for count, percent in itertools.product((8, MOST_TASKS), (90, 95, 100)):
+    for count, percent in itertools.product((8, MOST_BEFORE), (90, 95, 100)):
         name = "%d-buffers-%d" % (count, percent)
         title = "%d tasks with buffers, load %.2f" % (count, percent / 100)
         yield Measured(name, 100, 200, title, Draft(buffer_tasks(count, percent)).data())
-    tasks = buffer_tasks(MOST_TASKS, 95)
+    tasks = buffer_tasks(MOST_BEFORE, 95)
     yield Measured("32-buffers-95-rows", 100, 200, "32 tasks with buffers, load 0.95, 64 rows",
                    Draft(tasks, loaded_rows(tasks, MOST_ROWS)).data())
 
@@ -4532,18 +4554,18 @@ def buffer_classes():
 def past_classes():
     """The tables on which the second analysis is measured. Those of buffers are schedulable, and
     but for that of one task they have answers past the period."""
-    last = MOST_TASKS - 1
+    last = MOST_BEFORE - 1
     example = PAST_TABLES[0]
     yield Measured("example", 100, 200, "2 tasks, the example of 001",
                    Draft(example.tasks, example.rows).data())
     yield from buffer_classes()
     # A tick more than there is.
-    draft = Draft(buffer_tasks(MOST_TASKS, 100))
+    draft = Draft(buffer_tasks(MOST_BEFORE, 100))
     draft.change_task(last, cost=draft.tasks[last].cost + 1)
     yield Measured("32-open", 100, 200, "32 tasks, the last one open", draft.data())
     yield Measured("32-late", 100, 200, "32 tasks, the last one late at q = 4",
-                   Draft(buffer_tasks(MOST_TASKS, 101)).data())
-    draft = Draft(buffer_tasks(MOST_TASKS, 95))
+                   Draft(buffer_tasks(MOST_BEFORE, 101)).data())
+    draft = Draft(buffer_tasks(MOST_BEFORE, 95))
     draft.change_task(last, latest=1)
     yield Measured("refusal-11", 100, 200, "refusal 11, a delay in the last of 32 tasks",
                    draft.data())
@@ -4565,19 +4587,19 @@ ONE_TICK = Playable("one-tick", "1 task (1000000, 1, 1000000)",
 def every_tick_class(name, count):
     """32 tasks, of which that many, the first ones, are released at every tick."""
     short = [(1, 1, 1)] * count
-    long = [(GREATEST_TICKS, 1, GREATEST_TICKS)] * (MOST_TASKS - count)
+    long = [(GREATEST_TICKS, 1, GREATEST_TICKS)] * (MOST_BEFORE - count)
     title = "32 tasks, %d of them due at every tick" % count
     return Playable(name, title, Draft(listed(*(short + long))).data())
 
 
 def unplayable_classes():
-    _, draft = loaded_draft(MOST_TASKS, 0, [30])
-    draft.change_task(MOST_TASKS - 1, latest=1)
+    _, draft = loaded_draft(MOST_BEFORE, 0, [30])
+    draft.change_task(MOST_BEFORE - 1, latest=1)
     yield Playable("refusal-9-jitter", "refusal 9, jitter in the last of 32 tasks", draft.data())
-    _, draft = loaded_draft(MOST_TASKS, MOST_ROWS, [30])
+    _, draft = loaded_draft(MOST_BEFORE, MOST_ROWS, [30])
     yield Playable("refusal-9-rows", "refusal 9, 32 tasks, 64 rows", draft.data())
-    _, draft = loaded_draft(MOST_TASKS, 0, [30])
-    draft.change_task(MOST_TASKS - 1, priority=draft.tasks[MOST_TASKS - 2].priority)
+    _, draft = loaded_draft(MOST_BEFORE, 0, [30])
+    draft.change_task(MOST_BEFORE - 1, priority=draft.tasks[MOST_BEFORE - 2].priority)
     yield Playable("refusal-9-tie", "refusal 9, one priority for the last 2 of 32 tasks",
                    draft.data())
 
@@ -4592,7 +4614,7 @@ def playable_classes():
     yield Playable("analysis-slowest", "the analysis's slowest table before marks",
                    once_slowest_table())
     yield every_tick_class("one-due", 1)
-    yield every_tick_class("slowest", MOST_TASKS - 1)
+    yield every_tick_class("slowest", MOST_BEFORE - 1)
     yield MANY_TICKS
     yield ONE_TICK
     yield from unplayable_classes()
@@ -4603,7 +4625,7 @@ def playable_classes():
 # ---------------------------------------------------------------------------
 
 def command_answer(arguments):
-    """Reads at most 1,062 bytes "and judges what it took"."""
+    """Reads at most 4,590 bytes "and judges what it took"."""
     if arguments.file is None:
         data = sys.stdin.buffer.read(MOST_BYTES_TAKEN)
     else:
@@ -4692,7 +4714,7 @@ def command_plays(arguments):
     for playable in playable_classes():
         write_file(arguments.folder, playable.name + ".table", playable.data)
         try:
-            ticks = ticks_played(read_playable(Entry(playable.data, MOST_TASKS, 0)))
+            ticks = ticks_played(read_playable(Entry(playable.data, MOST_BEFORE, 0)))
         except Refused:
             ticks = 0
         print("%s %d %s" % (playable.name, ticks, playable.title))
