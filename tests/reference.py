@@ -816,8 +816,9 @@ def source_tables():
 Entry = collections.namedtuple("Entry", "table answers_length rounds_length")
 
 # A made table that needs more loads than this (rounds times tasks that interfere, summed) is left
-# out; the few slow tables are chosen by hand.
+# out; the few slow tables are chosen by hand. One round of each of 200 tasks has 19,900 by itself.
 MOST_LOADS = 20000
+MOST_WIDE_LOADS = 300000
 
 
 class Generator:
@@ -855,6 +856,10 @@ def loads_of(tasks, rows):
     start there are no more."""
     return sum(len(loads_on(place, tasks)) * rounds
                for place, rounds in enumerate(rounds_of(tasks, rows, Start.OWN_COST)))
+
+
+def most_loads(tasks):
+    return MOST_LOADS if len(tasks) <= MOST_BEFORE else MOST_WIDE_LOADS
 
 
 def exact_entry(data):
@@ -956,11 +961,11 @@ def made_section(generator, cost):
 
 
 def made_table(generator, count, row_count, scale, version=1):
-    """A table that needs no more than MOST_LOADS loads."""
+    """A table that needs no more than so many loads."""
     while True:
         tasks = made_tasks(generator, count, scale, version)
         rows = made_rows(generator, tasks, row_count)
-        if loads_of(tasks, rows) <= MOST_LOADS:
+        if loads_of(tasks, rows) <= most_loads(tasks):
             return tasks, rows
 
 
@@ -1947,10 +1952,10 @@ def delay_pairings(generator):
         yield Spoiled(exact_entry(draft.data()), refusals)
 
 
-def head_faults(generator):
+def head_faults(generator, version):
     """Every fault of the first five bytes and of the length."""
-    for fault in itertools.chain(*FAULTS_BY_REFUSAL[2][:4]):
-        draft = sound_draft(generator, 2)
+    for fault in itertools.chain(*FAULTS_BY_REFUSAL[version][:4]):
+        draft = sound_draft(generator, version)
         refusal = fault(draft, 0)
         if refusal:
             yield spoiled_entry(generator, draft, [refusal])
@@ -1967,7 +1972,7 @@ def following_faults(generator):
 def delay_faults(generator):
     yield from wrong_counts(2)
     yield from delay_pairings(generator)
-    yield from head_faults(generator)
+    yield from head_faults(generator, 2)
     yield from task_field_faults(generator, 2)
     yield from single_faults(generator, 2)
     yield from task_pairs(generator, 2, range(3))
@@ -2406,7 +2411,7 @@ def tied_table(generator, make, *how):
         tasks, rows = make(generator, *how)
         if len(tasks) > 1:
             tasks = with_groups(generator, tasks)
-            if loads_of(tasks, rows) <= MOST_LOADS:
+            if loads_of(tasks, rows) <= most_loads(tasks):
                 return tasks, rows
 
 
@@ -2934,9 +2939,12 @@ BUFFERS = (960, 1152, 1280, 1440, 1920, 2304, 2880, 3840)
 def buffer_tasks(count, percent):
     """Tasks that fill such buffers in turn, each with the same share of the load; the last one
     makes that as near to the percentage as whole ticks allow. There are two buffers for a task of
-    the most urgent third, then three, then four."""
+    the most urgent third, then three, then four. More than 32 tasks have ten times as many ticks to
+    a sample, since a share of theirs would be few of them."""
+    ticks = 1 if count <= MOST_BEFORE else 10
+    periods = [ticks * period for period in BUFFERS]
     tasks = listed(*[(period, period * percent // (100 * count), (2 + 3 * place // count) * period)
-                     for place, period in zip(range(count), itertools.cycle(BUFFERS))])
+                     for place, period in zip(range(count), itertools.cycle(periods))])
     return filled(tasks, count - 1, percent)
 
 
@@ -3080,6 +3088,392 @@ def past_period_entries(generator):
         yield exact_entry(data)
 
 
+# ---------------------------------------------------------------------------
+# Made tables of version 3
+# ---------------------------------------------------------------------------
+
+# One more than versions 1 and 2 have, and about the ends of 64, 128 and 192 tasks: the engine's
+# "ready word becomes four 64-bit words".
+WIDE_COUNTS = (33, 64, 65, 128, 129, 192, 193, 199, MOST_TASKS)
+# Pairs that share a priority across those ends, and the last two.
+CROSSING = (31, 63, 127, 191, MOST_TASKS - 2)
+
+
+def pairs_from(count, firsts):
+    """The sizes of groups, where each of these places shares its priority with the next."""
+    sizes = []
+    while sum(sizes) < count:
+        sizes.append(2 if sum(sizes) in firsts else 1)
+    return sizes
+
+
+def ends_of_groups(sizes):
+    """For each task how many have its priority or a greater one."""
+    return repeated(itertools.accumulate(sizes), sizes)
+
+
+ONES, TWOS = [1] * MOST_TASKS, [2] * MOST_TASKS
+CROSSING_SIZES = pairs_from(MOST_TASKS, CROSSING)
+# Places 0 to 99 in one group, the others in one; and all in groups of three but the last two.
+HALVES, THREES = [100, 100], [3] * 66 + [2]
+
+# All worked out by hand. Where costs are 1 and nothing is released twice, a task's answer is how
+# many have its priority or a greater one.
+WIDE_TABLES = [
+    worked([(1000, 1, 1000)] * 33, list(range(1, 34)), rounds=[1] * 33, own_rounds=[1] + [2] * 32),
+    worked([(1000, 1, 1000)] * MOST_TASKS, list(range(1, 201)), rounds=ONES,
+           own_rounds=[1] + [2] * 199),
+    # The last one is a tick late.
+    worked([(1000, 1, 199)] * MOST_TASKS, list(range(1, 200)) + [0], rounds=ONES,
+           own_rounds=[1] + [2] * 198 + [1]),
+    # Only those from place 32 on are late.
+    worked([(1000, 1, 32)] * MOST_TASKS, list(range(1, 33)) + [0] * 168, rounds=ONES,
+           own_rounds=[1] + [2] * 31 + [1] * 168),
+    worked([(1000, 1, 200)] * MOST_TASKS, [200] * MOST_TASKS, rounds=ONES, own_rounds=TWOS,
+           groups=(MOST_TASKS,)),
+    worked([(1000, 1, 199)] * MOST_TASKS, [0] * MOST_TASKS, rounds=ONES, own_rounds=ONES,
+           groups=(MOST_TASKS,)),
+    worked([(1000, 1, 1000)] * MOST_TASKS, ends_of_groups(CROSSING_SIZES), rounds=ONES,
+           own_rounds=[1] + [2] * 199, groups=CROSSING_SIZES),
+    worked([(1000, 1, 1000)] * MOST_TASKS, ends_of_groups(HALVES), rounds=ONES, own_rounds=TWOS,
+           groups=HALVES),
+    worked([(1000, 1, 1000)] * MOST_TASKS, ends_of_groups(THREES), rounds=ONES, own_rounds=TWOS,
+           groups=THREES),
+    # A section of the last task, 50 ticks long, blocks all others: its lock is the first one's too.
+    worked([(1000, 1, 1000)] * 199 + [(1000, 50, 1000)], list(range(51, 250)) + [249],
+           rows=((0, 1, 1), (199, 1, 50)), rounds=ONES, own_rounds=[1] + [2] * 199,
+           blocking=[50] * 199 + [0]),
+    # Where it is that of place 64, it blocks no task that is more urgent than that one.
+    worked([(1000, 1, 1000)] * 199 + [(1000, 50, 1000)],
+           list(range(1, 65)) + list(range(115, 250)) + [249],
+           rows=((64, 16, 1), (199, 16, 50)), rounds=ONES, own_rounds=[1] + [2] * 199,
+           blocking=[0] * 64 + [50] * 135 + [0]),
+    # Two jobs of the first task: 200, 201, 201. A spread of 1 lets the second in a tick sooner.
+    worked([(200, 1, 200)] + [(1000, 1, 1000)] * 199, list(range(1, 201)), rounds=ONES,
+           own_rounds=[1] + [2] * 199),
+    worked([(199, 1, 199)] + [(1000, 1, 1000)] * 199, list(range(1, 200)) + [201],
+           rounds=[1] * 199 + [2], own_rounds=[1] + [2] * 198 + [3]),
+    worked([(200, 1, 200, 4, 5)] + [(1000, 1, 1000)] * 199, [6] + list(range(2, 200)) + [201],
+           rounds=[1] * 199 + [2], own_rounds=[1] + [2] * 198 + [3]),
+    # The last one's constant delay is added to its answer alone.
+    worked([(1000, 1, 1000)] * 199 + [(1000, 1, 300, 100, 100)], list(range(1, 200)) + [300],
+           rounds=ONES, own_rounds=[1] + [2] * 199),
+    worked([(1000, 1, 1000)] * 199 + [(1000, 1, 299, 100, 100)], list(range(1, 200)) + [0],
+           rounds=ONES, own_rounds=[1] + [2] * 198 + [1]),
+]
+
+WIDE_TEXT = "tasks 200\n%sschedulable\n" % "".join(
+    "%d response %d deadline 1000 rounds 1\n" % (place, place + 1) for place in range(MOST_TASKS))
+
+# The second analysis of 200 tasks, worked out by hand.
+WIDE_PAST_TABLES = [
+    worked_past([(250000, 1250, 1000000)] * MOST_TASKS, [1250 * n for n in range(1, 201)], ONES),
+    # The last one has to wait for two jobs of each: 498,750, and one tick more for each q; open, or
+    # late at q = 1.
+    worked_past([(249999, 1250, 999996)] * MOST_TASKS,
+                [1250 * n for n in range(1, 200)] + [OPEN], [1] * 199 + [64]),
+    worked_past([(249999, 1250, 498750)] * MOST_TASKS,
+                [1250 * n for n in range(1, 200)] + [LATE], [1] * 199 + [2]),
+    # With one priority for all: 399,000, and one tick more for each q; late at q = 4.
+    worked_past([(199999, 1000, 399003)] * MOST_TASKS, [LATE] * MOST_TASKS, [5] * MOST_TASKS,
+                groups=(MOST_TASKS,)),
+]
+
+
+def whole_draft():
+    """200 tasks with delays and 64 rows, of which the last names place 199 and semaphore 16."""
+    tasks = listed(*[(1000, 2, 1000, 3, 5)] * MOST_TASKS)
+    return Draft(tasks, [Row(place, 16, 2) for place in range(MOST_TASKS - MOST_ROWS, MOST_TASKS)],
+                 3)
+
+
+def wide_edges():
+    """Places counted by hand, each with the text it must get (None: any answer but a refusal):
+    record 199 begins at byte 4184, the rows at 4205, and row 63 at 4583."""
+    yield bytes([3, 0, 5, 1]), "refused 1 at 0\n"
+    for task_count, row_count, text in (
+            (0, 0, "refused 3 at 3\n"), (201, 0, "refused 3 at 3\n"), (255, 0, "refused 3 at 3\n"),
+            (201, 65, "refused 3 at 3\n"), (200, 65, "refused 3 at 4\n"),
+            (1, 65, "refused 3 at 4\n"), (33, 255, "refused 3 at 4\n"),
+            (200, 64, "refused 4 at 0\n"), (33, 0, "refused 4 at 0\n"),
+            (1, 0, "refused 4 at 0\n")):
+        yield bytes([3, 0, 5, task_count, row_count]), text
+    # The same bytes in all versions.
+    for count in (32, 33):
+        data = Draft(listed(*[(100, 1, 100)] * count), version=3).data()
+        yield data, None
+        yield b"\x02" + data[1:], None if count == 32 else "refused 3 at 3\n"
+        yield b"\x01" + data[1:], "refused 4 at 0\n" if count == 32 else "refused 3 at 3\n"
+        yield b"\x04" + data[1:], "refused 2 at 0\n"
+        yield b"\x09" + data[1:], "refused 2 at 0\n"
+    yield whole_draft().data(), None
+    for changes, text in (
+            ({"period": 0}, "refused 5 at 4185\n"), ({"cost": 1000001}, "refused 5 at 4189\n"),
+            ({"deadline": 1001}, "refused 5 at 4193\n"),
+            ({"earliest": 1000001}, "refused 5 at 4197\n"),
+            ({"earliest": 6}, "refused 5 at 4201\n"), ({"latest": 1000001}, "refused 5 at 4201\n"),
+            ({"priority": 0}, "refused 6 at 4184\n"), ({"priority": 3}, "refused 6 at 4184\n"),
+            ({"priority": 2}, None)):
+        yield changed_tasks(whole_draft(), [(199, changes)]), text
+    for changes, text in (
+            ({"place": 200}, "refused 7 at 4583\n"), ({"place": 255}, "refused 7 at 4583\n"),
+            ({"semaphore": 17}, "refused 7 at 4584\n"), ({"length": 3}, "refused 7 at 4585\n"),
+            ({"length": 0}, "refused 7 at 4585\n"),
+            ({"place": 198}, "refused 7 at 4583\n"), ({"place": 31}, "refused 7 at 4583\n"),
+            ({"semaphore": 1}, None)):
+        yield changed_rows(whole_draft(), [(63, changes)]), text
+
+
+def wide_past_edges():
+    """The same of the second analysis."""
+    for changes, text in (
+            ({"deadline": 4000}, None), ({"deadline": 4001}, "refused 5 at 4193\n"),
+            ({"latest": 1}, "refused 11 at 0\n"),
+            ({"earliest": 1, "latest": 1}, "refused 11 at 0\n"),
+            ({"priority": 3, "latest": 1}, "refused 6 at 4184\n")):
+        draft = Draft(without_delays(whole_draft().tasks), version=3)
+        yield changed_tasks(draft, [(199, changes)]), text
+
+
+def long_wide_tables():
+    """Lengths about 4,589, the longest table of all."""
+    largest = whole_draft().data()
+    for length in (933, 1061, 4588):
+        yield largest[:length]
+        yield with_stated_length(largest[:length])
+    for length in (4590, 4591, 5000):
+        yield largest.ljust(length, b"\x03")
+    yield with_stated_length(largest + b"\x00")
+    yield b"\x02" + largest[1:]
+    yield b"\x01" + largest[1:]
+
+
+def wide_twins(generator, how_many):
+    """The same bytes in versions 2 and 3."""
+    for table in DELAY_TABLES:
+        yield exact_entry(Draft(table.tasks, table.rows, 3).data())
+    for make, _ in itertools.product((any_small_table, any_tied_table, any_past_table),
+                                     range(how_many)):
+        tasks, rows = make(generator, 2)
+        lengths = slices_for(generator, len(tasks), LONGEST_SLICE)
+        for version in (2, 3):
+            yield Entry(Draft(tasks, rows, version).data(), *lengths)
+    for version in (2, 3):
+        tasks, rows = made_table(Generator(SEED), MOST_BEFORE, MOST_ROWS, 3000, version)
+        yield exact_entry(Draft(tasks, rows, version).data())
+
+
+def even_tasks(generator, count, percent):
+    """Rate monotonic, periods of one size, and each task with about the same share of the load: so
+    that as good as all are in time where the load is not too great."""
+    periods = sorted(generator.between(20 * count, 60 * count) for _ in range(count))
+    tasks = listed(*[(period, 1, period) for period in periods])
+    return [task._replace(cost=max(1, generator.between(task.period * percent // (110 * count),
+                                                        task.period * percent // (90 * count))))
+            for task in tasks]
+
+
+def with_few_delays(generator, tasks):
+    """For one task in eight, and short."""
+    changed = list(tasks)
+    for place in generator.sample(range(len(tasks)), rounded_up(len(tasks), 8)):
+        latest = generator.between(1, tasks[place].period // 20)
+        changed[place] = tasks[place]._replace(earliest=generator.between(0, latest),
+                                               latest=latest)
+    return changed
+
+
+def with_late_task(generator, tasks, rows):
+    """The deadline of one task that is in time is made one tick too short."""
+    responses = responses_of(tasks, rows)
+    place = generator.pick([place for place, each in enumerate(responses) if each > 1])
+    changed = list(tasks)
+    changed[place] = tasks[place]._replace(deadline=responses[place] - 1)
+    return changed
+
+
+def wide_load_entries(generator):
+    """Light, heavy and with more work than there are ticks; with delays, with rows and with both;
+    then with a task that is late by a tick."""
+    for percent, row_count, delays in ((30, 0, False), (85, 0, False), (85, 64, False),
+                                       (70, 0, True), (70, 64, True), (120, 3, True)):
+        tasks = even_tasks(generator, MOST_TASKS, percent)
+        if delays:
+            tasks = with_few_delays(generator, tasks)
+        rows = made_rows(generator, tasks, row_count)
+        yield answered_entry(generator, tasks, rows, 3)
+        if percent == 70:
+            yield answered_entry(generator, with_late_task(generator, tasks, rows), rows, 3)
+
+
+def wide_size_entries(generator):
+    """Several n, with delays of every length and a few rows; most tasks are late."""
+    for count in (1, 2, 31, 32) + WIDE_COUNTS:
+        row_count = generator.between(0, min(8, 2 * count))
+        tasks, rows = made_table(generator, count, row_count, 50 * count, 3)
+        yield answered_entry(generator, tasks, rows, 3)
+    for count, row_count in ((33, 63), (65, MOST_ROWS), (MOST_TASKS, MOST_ROWS)):
+        yield answered_entry(generator, *made_table(generator, count, row_count, 3000, 3), 3)
+
+
+def wide_group_entries(generator):
+    """Several n in groups of any size; then 200 tasks in groups of one size, which are in time, and
+    in pairs across the ends of 64s."""
+    for count in (33, 65, 129, 193, MOST_TASKS):
+        tasks, rows = made_tied_table(generator, count, generator.below(8), 50 * count, 3)
+        yield answered_entry(generator, tasks, rows, 3)
+    for size, percent in ((2, 80), (8, 70), (50, 30), (MOST_TASKS, 20)):
+        tasks = in_groups(even_tasks(generator, MOST_TASKS, percent),
+                          *[size] * (MOST_TASKS // size))
+        rows = made_rows(generator, tasks, generator.pick([0, 5]))
+        yield answered_entry(generator, tasks, rows, 3)
+    tasks = in_groups(even_tasks(generator, MOST_TASKS, 60), *CROSSING_SIZES)
+    yield answered_entry(generator, tasks, made_rows(generator, tasks, MOST_ROWS), 3)
+
+
+def mixed_tasks(count, period, cost, room):
+    """For the engine. In each 64 one task, the first or the last, runs for long, and the other
+    comes again so many ticks after its first job's end: so that it is released while one of another
+    64 is served. Where there is no such room it is late."""
+    ends = [(start, min(start + 63, count - 1)) for start in range(0, count, 64)]
+    tasks = listed(*[(period, 1, period)] * count)
+    for number, pair in enumerate(ends):
+        long = pair[number % 2]
+        tasks[long] = tasks[long]._replace(cost=cost)
+    for number, pair in enumerate(ends):
+        often = pair[1 - number % 2]
+        again = response_of(often, tasks, []) + room
+        tasks[often] = tasks[often]._replace(period=again, deadline=again)
+    return tasks
+
+
+def wide_engine_entries(generator):
+    """Tables that the engine takes: mixed ones; even ones, where all are in time, and one of them
+    is late by a tick; and such as are due at every tick."""
+    for count in WIDE_COUNTS:
+        for cost, room in ((60, 9), (20, -5)):
+            yield answered_entry(generator, mixed_tasks(count, 5000, cost, room), [], 3)
+        tasks = even_tasks(generator, count, 75)
+        yield answered_entry(generator, tasks, [], 3)
+        yield answered_entry(generator, with_late_task(generator, tasks, []), [], 3)
+    # In each 64 the first one comes often, but for the first of all late, and one runs for 30.
+    tasks = listed(*[(5000, 1, 5000)] * MOST_TASKS)
+    for start, often in zip(range(0, MOST_TASKS, 64), (97, 101, 103, 113)):
+        tasks[start] = tasks[start]._replace(period=often, deadline=often)
+        tasks[start + 5] = tasks[start + 5]._replace(cost=30)
+    yield exact_entry(Draft(tasks, version=3).data())
+    for count in (33, 65, MOST_TASKS):
+        yield exact_entry(Draft(listed(*[(1, 1, 1)] * count), version=3).data())
+    # The last one is served last, and in time; then one tick late. Others come at each tick, above
+    # it, below it and at its side.
+    for deadline in (MOST_TASKS, MOST_TASKS - 1):
+        last = (1000, 1, deadline)
+        yield exact_entry(Draft(listed(*[(1000, 1, 1000)] * 199, last), version=3).data())
+    for place in (0, 63, 64, 127, 128, 191, 192, 198):
+        tasks = listed(*[(250, 1, 250)] * MOST_TASKS)
+        tasks[place] = tasks[place]._replace(period=1, deadline=1)
+        yield exact_entry(Draft(tasks, version=3).data())
+
+
+def wide_unplayable_entries():
+    """Two equal tasks across the ends of 64s, and a delay or a row of the last task: the engine
+    refuses them, with 8 where its slice is short."""
+    plain = listed(*[(1000, 1, 1000)] * MOST_TASKS)
+    drafts = [Draft(in_groups(plain, *pairs_from(MOST_TASKS, (first,))), version=3)
+              for first in CROSSING]
+    drafts.append(Draft(plain, listed_rows((199, 16, 1)), 3))
+    for delays in ((0, 1), (1, 1)):
+        draft = Draft(plain, version=3)
+        draft.change_task(199, earliest=delays[0], latest=delays[1])
+        drafts.append(draft)
+    for draft in drafts:
+        yield Entry(draft.data(), MOST_TASKS, MOST_TASKS)
+    yield Entry(drafts[0].data(), MOST_TASKS - 1, MOST_TASKS)
+    yield Entry(drafts[-1].data(), MOST_TASKS - 1, MOST_TASKS)
+
+
+def wide_slice_entries():
+    """Pairs of slice lengths about n."""
+    for count in (33, MOST_TASKS):
+        data = Draft(listed(*[(1000, 1, 1000)] * count), version=3).data()
+        lengths = [(count - 1, count), (count, count - 1), (count - 1, count - 1), (0, count),
+                   (count, 0), (32, 32), (count + 1, count), (count, 255), (255, 255)]
+        for pair in lengths:
+            yield Entry(data, *pair)
+
+
+def wide_past_entries(generator):
+    """Deadlines past the period: buffers, about the full load, with rows and in groups; made tables
+    of several n; a delay."""
+    for data, _ in wide_past_edges():
+        yield exact_entry(data)
+    for table in WIDE_PAST_TABLES:
+        yield exact_entry(Draft(table.tasks, table.rows, 3).data())
+    for percent in (90, 98, 100):
+        tasks = buffer_tasks(MOST_TASKS, percent)
+        yield answered_entry(generator, tasks, [], 3)
+    tasks = buffer_tasks(MOST_TASKS, 95)
+    yield answered_entry(generator, tasks, loaded_rows(tasks, MOST_ROWS), 3)
+    yield answered_entry(generator, in_groups(tasks, *[20] * 10), [], 3)
+    for count in (33, 64, 65, 129, MOST_TASKS):
+        tasks, rows = made_past_table(generator, count, generator.below(6), 6 * count)
+        yield answered_entry(generator, tasks, rows, 3)
+    tasks = furthest(even_tasks(generator, MOST_TASKS, 100))
+    yield answered_entry(generator, tasks, [], 3)
+
+
+def wide_faults(generator):
+    """Every fault of the head, and of each field in small tables; and some in the last and a middle
+    record or row of long ones."""
+    yield from wrong_counts(3)
+    yield from head_faults(generator, 3)
+    yield from task_field_faults(generator, 3)
+    yield from single_faults(generator, 3)
+    yield from task_and_row_faults(generator, 3)
+    yield from far_faults(generator, 3, [(33, 3), (65, MOST_ROWS)])
+
+
+def greatest_wide_tables():
+    """The largest sums of 200 tasks."""
+    top, others = GREATEST_TICKS, MOST_TASKS - 1
+    rows = [Row(place, semaphore, top) for place in range(MOST_TASKS - 4, MOST_TASKS)
+            for semaphore in range(1, GREATEST_SEMAPHORE + 1)]
+    for period, delays in ((1, (0, top)), (top, (0, top)), (top, (top, top)), (1, (0, 0))):
+        loads = [(period, top, period) + delays] * others
+        yield Draft(listed(*loads, (top, 1, top)), version=3).data()
+        yield Draft(in_groups(listed((top, 1, top), *loads), MOST_TASKS), version=3).data()
+    yield Draft(listed(*[(top, top, top)] * MOST_TASKS), rows, 3).data()
+    # 1,000,000 ticks together, and one more.
+    for more in (0, 1):
+        entries = [(top, top // MOST_TASKS, top)] * others
+        yield Draft(listed(*entries, (top, top // MOST_TASKS + more, top)), version=3).data()
+
+
+def wide_entries(generator):
+    for table in WIDE_TABLES:
+        yield exact_entry(Draft(table.tasks, table.rows, 3).data())
+    for data, _ in wide_edges():
+        yield exact_entry(data)
+    yield from wide_slice_entries()
+    for spoiled in itertools.chain(wide_faults(generator), two_faults(generator, 40, 3)):
+        yield spoiled.entry
+    yield from small_entries(generator, 50, 3)
+    yield from small_entries(generator, 30, 3, any_tied_table)
+    yield from deadline_entries(generator, 15, 3)
+    yield from limit_entries(generator, 15, 3)
+    yield from wide_twins(generator, 6)
+    yield from wide_size_entries(generator)
+    yield from wide_load_entries(generator)
+    yield from wide_group_entries(generator)
+    yield from wide_engine_entries(generator)
+    yield from wide_unplayable_entries()
+    yield from wide_past_entries(generator)
+    small = Draft(listed((30, 10, 20, 4, 10), (90, 15, 80, 7, 7)), listed_rows((1, 1, 3)), 3)
+    for data in itertools.chain(greatest_wide_tables(), long_wide_tables(),
+                                changed_byte_tables(small.data()), junk_tables(generator, 6, 3)):
+        yield exact_entry(data)
+
+
 SEED = 20240101
 
 
@@ -3098,6 +3492,7 @@ def all_entries():
     yield from start_entries(Generator(SEED + 7))
     yield from group_entries(Generator(SEED + 8))
     yield from past_period_entries(Generator(SEED + 11))
+    yield from wide_entries(Generator(SEED + 14))
 
 
 def entry_bytes(entry):
@@ -3156,6 +3551,23 @@ CLAIM_EXAMPLES = [
     (GROUP_TABLES[1], [2, 1], "fails 1"),
     (GROUP_TABLES[9], [11, 11, 17, 17], "pass"),
     (GROUP_TABLES[9], [11, 10, 17, 17], "fails 1"),
+]
+
+
+# The same for 200 tasks, whose answers are 1 to 200.
+COUNTED = list(range(1, MOST_TASKS + 1))
+WIDE_CLAIM_EXAMPLES = [
+    (COUNTED, "pass"),
+    (COUNTED[:199] + [199], "fails 199"),
+    (COUNTED[:199] + [1001], "fails 199"),
+    (COUNTED[:32] + [32] + COUNTED[33:], "fails 32"),
+    (COUNTED[:64] + [0] * 136, "fails 64"),
+    ([1000] * MOST_TASKS, "pass"),
+    (COUNTED[:199], "refused 10 at 0"),
+    (COUNTED + [1], "refused 10 at 0"),
+    (COUNTED[:32], "refused 10 at 0"),
+    ([1] * MOST_CLAIMS, "refused 10 at 0"),
+    ([], "refused 10 at 0"),
 ]
 
 
@@ -3335,6 +3747,45 @@ def many_claims():
         yield Claimed(fifth, [1, 3, 10] + [1] * (count - 3))
 
 
+def made_wide_claims(generator):
+    """Tables of more than 32 tasks in which nobody is late, with rows, delays and groups; one with
+    a late task; and small ones of version 3."""
+    counts = ((33, 75, 0, 1), (MOST_TASKS, 80, 0, 1), (MOST_TASKS, 60, MOST_ROWS, 1),
+              (MOST_TASKS, 50, 5, 20))
+    for count, percent, row_count, size in counts:
+        tasks = with_few_delays(generator, even_tasks(generator, count, percent))
+        tasks = in_groups(tasks, *[size] * (count // size))
+        rows = made_rows(generator, tasks, row_count)
+        yield from claim_lists(generator, Draft(tasks, rows, 3).data(), 4)
+    tasks = with_late_task(generator, tasks, rows)
+    yield from claim_lists(generator, Draft(tasks, rows, 3).data(), 2)
+    for make in (any_small_table, any_tied_table) * 4:
+        yield from claim_lists(generator, Draft(*make(generator, 3), 3).data(), 4)
+
+
+def refused_wide_claims(generator):
+    """Every fault of the head and some in the last record and row, with right and wrong counts: as
+    many claims as version 2 has tasks are too few for more."""
+    for spoiled in head_faults(generator, 3):
+        yield Claimed(spoiled.entry.table, [1] * spoiled.entry.answers_length)
+    for fault, number in ((LATEST_FAULTS[0], 199), (PRIORITY_FAULTS[0], 199),
+                          (PLACE_FAULTS[0], 63)):
+        draft = whole_draft()
+        fault(draft, number)
+        yield Claimed(draft.data(), [1] * generator.pick([32, 199, MOST_TASKS, 201]))
+    for version, count in itertools.product((2, 3), (32, 33)):
+        data = Draft(listed(*[(100, 1, 100)] * count), version=3).data()
+        yield Claimed(bytes([version]) + data[1:], list(range(1, count + 1)))
+
+
+def wide_claims(generator):
+    data = Draft(WIDE_TABLES[1].tasks, version=3).data()
+    for claims, _ in WIDE_CLAIM_EXAMPLES:
+        yield Claimed(data, claims)
+    yield from made_wide_claims(generator)
+    yield from refused_wide_claims(generator)
+
+
 def all_claims():
     generator = Generator(SEED + 9)
     for table, claims, _ in CLAIM_EXAMPLES:
@@ -3349,6 +3800,7 @@ def all_claims():
     yield from refused_claims(generator)
     yield from edges_claimed(generator)
     yield from many_claims()
+    yield from wide_claims(Generator(SEED + 15))
 
 
 def claimed_bytes(claimed):
@@ -3614,6 +4066,10 @@ def check_documents(checks):
         check_printed(checks, table, "table %d for the starts" % number)
     for number, table in enumerate(GROUP_TABLES):
         check_printed(checks, table, "table %d with groups" % number)
+    for number, table in enumerate(WIDE_TABLES):
+        check_printed(checks, table, "table %d of version 3" % number)
+    wide = Draft(WIDE_TABLES[1].tasks, version=3).data()
+    checks.same(text_of(wide), WIDE_TEXT, "text of 200 tasks")
     delayed = Draft(DELAY_TABLES[0].tasks, version=2).data()
     checks.same(text_of(delayed), DELAYS_TEXT, "text of the table with delays")
     for version in VERSIONS_BEFORE:
@@ -3627,19 +4083,20 @@ def check_documents(checks):
         responses = responses_of(*read_table(data, MOST_BEFORE, MOST_BEFORE))
         checks.same(responses[-1], 0, "wrapping table %d" % number)
     edges = itertools.chain(edge_tables(), place_edges(), delay_edges(), version_edges(),
-                            group_edges())
+                            group_edges(), wide_edges())
     check_edges(checks, text_of, edges, "edge")
 
 
 def check_past_documents(checks):
-    for number, table in enumerate(PAST_TABLES):
+    for number, table in enumerate(PAST_TABLES + WIDE_PAST_TABLES):
         wanted = list(map(Found, table.answers, table.tried))
         checks.same(all_found_past(table.tasks, table.rows), wanted,
                     "table %d past the period" % number)
     for number, text in PAST_TEXTS.items():
         data = Draft(PAST_TABLES[number].tasks, PAST_TABLES[number].rows).data()
         checks.same(past_text_of(data), text, "text of table %d past the period" % number)
-    check_edges(checks, past_text_of, past_edges(), "edge past the period")
+    edges = itertools.chain(past_edges(), wide_past_edges())
+    check_edges(checks, past_text_of, edges, "edge past the period")
 
 
 def check_faults(checks):
@@ -3681,13 +4138,24 @@ def check_faults(checks):
             check_two(spoiled, "two faults with groups")
     for spoiled in spoiled_past(Generator(SEED + 11)):
         check_first(with_short_slices(spoiled), "past the period", read_past)
+    generator = Generator(SEED + 14)
+    for spoiled in wide_faults(generator):
+        check_first(spoiled, "version 3")
+    for spoiled in two_faults(generator, 300, 3):
+        check_two(spoiled, "two faults in version 3")
+
+
+def tried_places(tasks):
+    """Those of all tasks; of more than 32 the first, the middle and the last, since there each
+    number that a plain search tries and each tick that is played takes long."""
+    return range(len(tasks)) if len(tasks) <= MOST_BEFORE else ends_of(len(tasks))
 
 
 def check_searches(checks, tasks, rows):
     """The plain search and the skipping one."""
-    for place, task in enumerate(tasks):
-        parts = parts_of(place, tasks, rows)
-        checks.same(skipping_search(*parts, task.deadline), plain_search(*parts, task.deadline),
+    for place in tried_places(tasks):
+        deadline, parts = tasks[place].deadline, parts_of(place, tasks, rows)
+        checks.same(skipping_search(*parts, deadline), plain_search(*parts, deadline),
                     "search of task %d of %r" % (place, tasks))
 
 
@@ -3736,7 +4204,8 @@ def check_run_together(checks, tasks):
     # "some run ... has such a job unfinished at r + R - 1", and for answer 0 "some run has a job
     # with r + D <= N unfinished at r + D": the run released together is such a run. Not so for a
     # task that shares its priority: "For tables with ties demand 3 keeps only its first half".
-    for place, response in enumerate(responses_of(tasks, [])):
+    for place in tried_places(tasks):
+        response = response_of(place, tasks, [])
         what = "task %d of %r released together" % (place, tasks)
         end = first_finish(tasks, place, tasks[place].deadline)
         if is_alone(place, tasks):
@@ -3859,6 +4328,23 @@ def check_both_versions(checks, entries):
             checks.same(engine_line(second), engine_line(entry), what)
 
 
+def check_third_version(checks, entries):
+    """A version 2 table reads the same in version 3, but for n above 32: "The version byte alone
+    decides which layout and limits hold." """
+    for number, entry in enumerate(entries):
+        if entry.table[:1] == b"\x02":
+            third = entry._replace(table=b"\x03" + entry.table[1:])
+            refusal = refusal_of(entry)
+            if refusal == (3, TASK_COUNT_BYTE) and 0 < entry.table[TASK_COUNT_BYTE] <= MOST_TASKS:
+                continue
+            for read in (read_table, read_past):
+                what = "entry %d in version 3" % number
+                refusal = refusal_of(entry, read)
+                checks.same(refusal_of(third, read), refusal, what)
+                if refusal is None:
+                    checks.same(read(*third), read(*entry), what)
+
+
 def check_beside_first(checks, entry, what):
     """The refusals of both analyses, and where neither refuses what they find."""
     first, second = refusal_of(entry), refusal_of(entry, read_past)
@@ -3884,7 +4370,8 @@ MOST_PLAIN_NUMBERS = 50000
 
 def check_past_searches(checks, tasks, rows, found):
     """The plain search and the skipping one, for every q that is tried."""
-    for place, (task, (_, tried)) in enumerate(zip(tasks, found)):
+    for place in tried_places(tasks):
+        task, tried = tasks[place], found[place].tried
         if tried * (task.deadline + tried * task.period) <= MOST_PLAIN_NUMBERS:
             parts = parts_of(place, tasks, rows)
             for earlier in range(tried):
@@ -4146,6 +4633,9 @@ def check_claims(checks, claimed):
             data = Draft(table.tasks, table.rows, version).data()
             checks.same(claimed_line(data, claims), wanted,
                         "claims %r of %r" % (claims, table.tasks))
+    data = Draft(WIDE_TABLES[1].tasks, version=3).data()
+    for claims, wanted in WIDE_CLAIM_EXAMPLES:
+        checks.same(claimed_line(data, claims), wanted, "claims %r of 200 tasks" % (claims,))
     generator = Generator(SEED + 10)
     for _, version in itertools.product(range(150), VERSIONS_BEFORE):
         check_every_claim(checks, *tiny_table(generator, version), version)
@@ -4665,6 +5155,7 @@ def command_check(_arguments):
     check_faults(checks)
     check_entries(checks, entries)
     check_both_versions(checks, entries)
+    check_third_version(checks, entries)
     check_runs(checks)
     check_delayed_runs(checks)
     check_event_playing(checks)
