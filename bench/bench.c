@@ -39,7 +39,7 @@
 #endif
 #endif
 
-enum { MOST_BYTES = 1062, MOST_TASKS = 32 };
+enum { MOST_BYTES = 4590, MOST_TASKS = 200 };
 
 #ifdef TOO_FEW
 enum { LEFT_OUT = 1 };
@@ -64,7 +64,7 @@ static unsigned long sum(const uint32_t *words, size_t count)
 #ifdef CLAIMS
 static uint32_t deadline_at(const uint8_t *table, size_t i)
 {
-    const uint8_t *at = table + 5 + (table[0] == 2 ? 21 : 17) * i + 9;
+    const uint8_t *at = table + 5 + (table[0] == 1 ? 17 : 21) * i + 9;
 
     return (uint32_t)at[0] << 24 | (uint32_t)at[1] << 16 | (uint32_t)at[2] << 8 | at[3];
 }

@@ -1,6 +1,6 @@
 /* plain.h: the analysis of document 01, the engine of document 02, L1, the checker of claims of its
  * L7 and the second analysis of its L8 in plain C, to test and to measure against. All read tables
- * of versions 1 and 2. */
+ * of versions 1 to 3. */
 #ifndef PLAIN_H
 #define PLAIN_H
 

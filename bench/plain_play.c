@@ -1,6 +1,7 @@
-/* plain_play.c: the engine of document 02, L1, as one would write it in C, without proofs: one
- * playing for all tasks, tick by tick with a ready word, and a look at the tasks only in a tick at
- * which one is due. */
+/* plain_play.c: the engine of document 02, L1 and L9, as one would write it in C, without proofs:
+ * one playing for all tasks, tick by tick with a ready word for each 64 tasks, and a look at the
+ * tasks of a word only in a tick at which one of them is due. Which task is served is looked for
+ * only where a ready word has changed. */
 #include "plain.h"
 #include "plain_table.h"
 
@@ -13,39 +14,103 @@ static int has_tie(const struct tasks *tasks)
     return 0;
 }
 
+enum { WORD_TASKS = 64, MOST_WORDS = (MOST_TASKS + WORD_TASKS - 1) / WORD_TASKS };
+
+/* What is left to do for each task and when it is next due; and for each word of tasks which of them
+ * are ready, and when the first of them is next due. Only so many words are looked at as the tasks
+ * need. */
+struct state {
+    size_t words;
+    uint64_t left[MOST_TASKS];
+    uint32_t due[MOST_TASKS];
+    uint64_t ready[MOST_WORDS];
+    uint32_t next[MOST_WORDS];
+};
+
+static void start(const struct tasks *tasks, struct state *state)
+{
+    state->words = (tasks->n + WORD_TASKS - 1) / WORD_TASKS;
+    for (size_t i = 0; i < tasks->n; i++) {
+        state->left[i] = 0;
+        state->due[i] = 0;
+    }
+    for (size_t w = 0; w < state->words; w++) {
+        state->ready[w] = 0;
+        state->next[w] = 0;
+    }
+}
+
+/* Releases the tasks of one word that are due. */
+static void release_word(const struct tasks *tasks, size_t w, uint32_t at, struct state *state)
+{
+    size_t first = WORD_TASKS * w;
+    size_t end = tasks->n - first < WORD_TASKS ? tasks->n : first + WORD_TASKS;
+    uint32_t next = UINT32_MAX;
+
+    for (size_t i = first; i < end; i++) {
+        if (state->due[i] == at) {
+            state->left[i] += tasks->C[i];
+            state->due[i] += tasks->T[i];
+            state->ready[w] |= (uint64_t)1 << (i - first);
+        }
+        if (state->due[i] < next)
+            next = state->due[i];
+    }
+    state->next[w] = next;
+}
+
+/* Releases all tasks that are due; gives when the next one is. */
+static uint32_t release(const struct tasks *tasks, uint32_t at, struct state *state)
+{
+    uint32_t next = UINT32_MAX;
+
+    for (size_t w = 0; w < state->words; w++) {
+        if (state->next[w] == at)
+            release_word(tasks, w, at, state);
+        if (state->next[w] < next)
+            next = state->next[w];
+    }
+    return next;
+}
+
+/* The most urgent task that is ready, or MOST_TASKS if none is. */
+static size_t most_urgent(const struct state *state)
+{
+    for (size_t w = 0; w < state->words; w++)
+        if (state->ready[w])
+            return WORD_TASKS * w + (size_t)__builtin_ctzll(state->ready[w]);
+    return MOST_TASKS;
+}
+
+static uint32_t latest_deadline(const struct tasks *tasks)
+{
+    uint32_t last = 0;
+
+    for (size_t i = 0; i < tasks->n; i++)
+        if (tasks->D[i] > last)
+            last = tasks->D[i];
+    return last;
+}
+
 /* All tasks are released at tick 0 and then every T. The answers are 0 before. */
 static void play_together(const struct tasks *tasks, uint32_t *answers)
 {
-    uint64_t left[MOST_TASKS];
-    uint32_t due[MOST_TASKS], ready = 0, next = 0, last = 0;
+    struct state state;
+    uint32_t next = 0, last = latest_deadline(tasks);
+    size_t serve = MOST_TASKS;
 
-    for (size_t i = 0; i < tasks->n; i++) {
-        left[i] = 0;
-        due[i] = 0;
-        if (tasks->D[i] > last)
-            last = tasks->D[i];
-    }
+    start(tasks, &state);
     for (uint32_t at = 0; at < last; at++) {
-        int serve;
-
         if (at == next) {
-            next = UINT32_MAX;
-            for (size_t i = 0; i < tasks->n; i++) {
-                if (due[i] == at) {
-                    left[i] += tasks->C[i];
-                    due[i] += tasks->T[i];
-                    ready |= (uint32_t)1 << i;
-                }
-                if (due[i] < next)
-                    next = due[i];
-            }
+            next = release(tasks, at, &state);
+            serve = most_urgent(&state);
         }
-        serve = __builtin_ctz(ready);
-        if (--left[serve] == 0) {
+        if (--state.left[serve] == 0) {
             if (at < tasks->D[serve])
                 answers[serve] = at + 1;
-            ready &= ~((uint32_t)1 << serve);
-            if (!ready)
+            state.ready[serve / WORD_TASKS] &= ~((uint64_t)1 << serve % WORD_TASKS);
+            serve = most_urgent(&state);
+            if (serve == MOST_TASKS)
                 return;
         }
     }

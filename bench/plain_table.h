@@ -8,7 +8,7 @@
 #include <stdint.h>
 
 enum {
-    MOST_TASKS = 32,
+    MOST_TASKS = 200, /* of any version */
     MOST_ROWS = 64,
     MOST_SEMAPHORES = 16,
     MOST_TICKS = 1000000,
@@ -69,7 +69,8 @@ static uint32_t big_endian_32(const uint8_t *at)
     return (uint32_t)at[0] << 24 | (uint32_t)at[1] << 16 | (uint32_t)at[2] << 8 | at[3];
 }
 
-/* Is it a known version? Version 1 has a jitter, which is the latest delay. */
+/* Is it a known version? Version 1 has a jitter, which is the latest delay; version 3 has more tasks
+ * than version 2 (document 02, L9). */
 static int read_version(uint8_t version, struct layout *layout)
 {
     switch (version) {
@@ -82,6 +83,12 @@ static int read_version(uint8_t version, struct layout *layout)
     case 2:
         layout->task_bytes = 21;
         layout->most_tasks = 32;
+        layout->earliest_at = 13;
+        layout->latest_at = 17;
+        return 1;
+    case 3:
+        layout->task_bytes = 21;
+        layout->most_tasks = 200;
         layout->earliest_at = 13;
         layout->latest_at = 17;
         return 1;
