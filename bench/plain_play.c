@@ -45,17 +45,22 @@ static void release_word(const struct tasks *tasks, size_t w, uint32_t at, struc
 {
     size_t first = WORD_TASKS * w;
     size_t end = tasks->n - first < WORD_TASKS ? tasks->n : first + WORD_TASKS;
+    uint64_t ready = state->ready[w];
     uint32_t next = UINT32_MAX;
 
     for (size_t i = first; i < end; i++) {
-        if (state->due[i] == at) {
+        uint32_t due = state->due[i];
+
+        if (due == at) {
+            due += tasks->T[i];
+            state->due[i] = due;
             state->left[i] += tasks->C[i];
-            state->due[i] += tasks->T[i];
-            state->ready[w] |= (uint64_t)1 << (i - first);
+            ready |= (uint64_t)1 << i % WORD_TASKS;
         }
-        if (state->due[i] < next)
-            next = state->due[i];
+        if (due < next)
+            next = due;
     }
+    state->ready[w] = ready;
     state->next[w] = next;
 }
 
