@@ -4484,7 +4484,7 @@ def check_past_classes(checks):
             lines = past_text_of(measured.data).splitlines()
             checks.same(lines[-1], wanted.get(measured.name, "schedulable"), measured.title)
         if "-buffers-" in measured.name:
-            tasks, rows = read_past(measured.data, MOST_BEFORE, MOST_BEFORE)
+            tasks, rows = read_past(measured.data, MOST_TASKS, MOST_TASKS)
             checks.same(schedulable_past(tasks, all_found_past(tasks, rows)), True, measured.title)
 
 
@@ -4843,12 +4843,15 @@ Measured = collections.namedtuple("Measured", "name few many title data")
 
 
 def loaded_tasks(count, percent):
-    """Periods rising by a fifth from 1,000 ticks, each task with the same share of the load."""
-    tasks, period = [], 1000
+    """Periods rising by a fifth from 1,000 ticks, each task with the same share of the load. Those
+    of more than 32 tasks rise by a fiftieth from 10,000."""
+    tasks, period, part = [], 1000, 5
+    if count > MOST_BEFORE:
+        period, part = 10000, 50
     for place in range(count):
         cost = max(1, period * percent // (100 * count))
         tasks.append(Task(count - place, period, cost, period, 0, 0))
-        period = period * 6 // 5 + place % 3
+        period = period * (part + 1) // part + place % 3
     return tasks
 
 
@@ -4886,7 +4889,7 @@ def loaded_draft(count, row_count, percents, version=1, group=1):
     return chosen
 
 
-def load_class(count, row_count, kind, percents, version=1):
+def load_class(count, row_count, kind, percents, version=1, few=100):
     percent, draft = loaded_draft(count, row_count, percents, version)
     title = "%d %s, %s (%d%%)" % (count, "task" if count == 1 else "tasks", kind, percent)
     name = "%d-%s" % (count, kind.replace(" ", "-"))
@@ -4896,7 +4899,7 @@ def load_class(count, row_count, kind, percents, version=1):
     if version == 2:
         title += ", delays"
         name += "-delays"
-    return Measured(name, 100, 200, title, draft.data())
+    return Measured(name, few, 2 * few, title, draft.data())
 
 
 def load_classes():
@@ -4995,6 +4998,28 @@ def group_classes():
                    "32 tasks of one priority, the slowest table found", slowest_group_table())
 
 
+def wide_load_classes():
+    """200 tasks, of version 3; a call takes long, so that there are fewer of them."""
+    yield load_class(MOST_TASKS, 0, "light", [30], 3, 10)
+    yield load_class(MOST_TASKS, 0, "near full load", range(80, 101), 3, 10)
+    yield load_class(MOST_TASKS, MOST_ROWS, "near full load", range(80, 101), 3, 10)
+
+
+def wide_classes():
+    """Version 3, as for 32 tasks before."""
+    yield from wide_load_classes()
+    draft = Draft(in_groups(loaded_tasks(MOST_TASKS, 30), MOST_TASKS), version=3)
+    yield Measured("200-one-priority", 10, 20, "200 tasks of one priority, light (30%)",
+                   draft.data())
+    for title, fault, number in (
+            ("5, last of 200 tasks", LATEST_FAULTS[0], MOST_TASKS - 1),
+            ("7, last row of 200 tasks", LENGTH_FAULTS[0], MOST_ROWS - 1)):
+        _, draft = loaded_draft(MOST_TASKS, MOST_ROWS, [30], 3)
+        fault(draft, number)
+        name = "refusal-" + title.replace(",", "").replace(" ", "-")
+        yield Measured(name, 100, 200, "refusal " + title, draft.data())
+
+
 def measured_classes():
     yield from load_classes()
     yield Measured("most-loads", 1, 2, "32 tasks, the most loads found", most_loads_table())
@@ -5004,6 +5029,7 @@ def measured_classes():
     yield from refusal_classes()
     yield from delay_classes()
     yield from group_classes()
+    yield from wide_classes()
 
 
 def lasting_tasks(periods, doubled):
@@ -5062,6 +5088,19 @@ def past_classes():
     yield Measured("slowest", 1, 2, "32 tasks, the slowest table found", slowest_past_table())
     yield Measured("slowest-one-priority", 0, 1,
                    "32 tasks of one priority, the slowest table found", slowest_past_group_table())
+    yield from wide_past_classes()
+
+
+def wide_past_classes():
+    """Version 3. In the order of fewer tasks the last of 200 with a short buffer would be late."""
+    tasks = sorted(buffer_tasks(MOST_TASKS, 95), key=lambda task: task.period)
+    tasks = with_priorities(tasks, range(MOST_TASKS, 0, -1))
+    yield Measured("200-buffers-95", 10, 20, "200 tasks with buffers, the shorter first, load 0.95",
+                   Draft(tasks, version=3).data())
+    tasks = in_groups(furthest(buffer_tasks(MOST_TASKS, 85)), MOST_TASKS)
+    yield Measured("200-one-priority-buffers-85", 10, 20,
+                   "200 tasks of one priority with buffers, load 0.85",
+                   Draft(tasks, version=3).data())
 
 
 Playable = collections.namedtuple("Playable", "name title data")
@@ -5108,6 +5147,35 @@ def playable_classes():
     yield MANY_TICKS
     yield ONE_TICK
     yield from unplayable_classes()
+    yield from wide_playable_classes()
+
+
+# How long those of 200 tasks are played that never come to an end.
+WIDE_TICKS = 100000
+
+
+def wide_every_tick_class(name, places, which):
+    """200 tasks, of which these are released at every tick."""
+    tasks = listed(*[(WIDE_TICKS, 1, WIDE_TICKS)] * MOST_TASKS)
+    for place in places:
+        tasks[place] = tasks[place]._replace(period=1, deadline=1)
+    return Playable(name, "200 tasks, %s due at every tick" % which, Draft(tasks, version=3).data())
+
+
+def wide_playable_classes():
+    """Version 3. The releases of a tick are in the first 64, in each 64 or in all places but the
+    last, whose deadline is far off."""
+    for measured in wide_load_classes():
+        if not measured.name.endswith("-rows"):
+            yield Playable(measured.name, measured.title, measured.data)
+    yield wide_every_tick_class("200-one-due", [0], "1 of them")
+    yield wide_every_tick_class("200-eight-due", range(8), "8 of them")
+    yield wide_every_tick_class("200-eight-due-apart", [0, 31, 64, 95, 128, 159, 192, 198],
+                                "8 of them, 2 in each 64,")
+    yield wide_every_tick_class("200-all-due", range(MOST_TASKS - 1), "199 of them")
+    _, draft = loaded_draft(MOST_TASKS, 0, [30], 3)
+    draft.change_task(MOST_TASKS - 1, latest=1)
+    yield Playable("200-refusal-9", "refusal 9, a delay in the last of 200 tasks", draft.data())
 
 
 # ---------------------------------------------------------------------------
@@ -5205,7 +5273,7 @@ def command_plays(arguments):
     for playable in playable_classes():
         write_file(arguments.folder, playable.name + ".table", playable.data)
         try:
-            ticks = ticks_played(read_playable(Entry(playable.data, MOST_BEFORE, 0)))
+            ticks = ticks_played(read_playable(Entry(playable.data, MOST_TASKS, 0)))
         except Refused:
             ticks = 0
         print("%s %d %s" % (playable.name, ticks, playable.title))
