@@ -26,10 +26,11 @@ extern "C" {
 #endif
 
 /* A table is a head of 5 bytes, then a record for each of n tasks, then m section rows, which say
- * for how long a task holds a semaphore. Versions 1 and 2 are read. The version, byte 0, decides
- * the size s of a task's record: 17 bytes in version 1, whose records have one jitter J, and 21 in
- * version 2, whose records have an earliest and a latest delay in place of J. A version 1 table is
- * read as one with earliest delay 0 and latest delay J.
+ * for how long a task holds a semaphore. Versions 1, 2 and 3 are read. The version, byte 0, alone
+ * decides the size s of a task's record and how many tasks there may be. In version 1 a record has
+ * 17 bytes, with one jitter J; in version 2 it has 21, with an earliest and a latest delay in place
+ * of J. Both have at most 32 tasks. Version 3 has the records of version 2 and at most 200 tasks. A
+ * version 1 table is read as one with earliest delay 0 and latest delay J.
  *
  * A record has a priority, a period T, a cost C, a deadline D, and the jitter or the delays. T is
  * the least number of ticks between two jobs of the task, C the most processor time that a job
@@ -41,16 +42,18 @@ extern "C" {
  * released in one tick the one whose task stands first in the table. A task may have to wait for
  * every other task of its own priority or a greater one, and its answer counts all of them.
  *
- * Limits of both versions; the longest table of version 1 has 933 bytes. */
-#define ULMERASCIO_MOST_TASKS 32
-#define ULMERASCIO_LONGEST_TABLE 1061
+ * The most tasks and the most bytes of all versions: those of version 3. The longest tables of
+ * versions 1 and 2, with 32 tasks and 64 rows, have 933 and 1,061 bytes. */
+#define ULMERASCIO_MOST_TASKS 200
+#define ULMERASCIO_LONGEST_TABLE 4589
 
 /* Why a table was refused. They are tested in this order, except that 5 and 6 take turns record
  * by record; the first that applies is given, and only when it applies. */
 enum ulmerascio_refusal_number {
     ULMERASCIO_REFUSED_SHORT = 1,    /* fewer than 5 bytes */
-    ULMERASCIO_REFUSED_VERSION = 2,  /* byte 0 is neither 1 nor 2 */
-    ULMERASCIO_REFUSED_COUNTS = 3,   /* n is not 1 to 32, or m is not 0 to 64 */
+    ULMERASCIO_REFUSED_VERSION = 2,  /* byte 0 is not 1, 2 or 3 */
+    ULMERASCIO_REFUSED_COUNTS = 3,   /* n is not 1 to 32, in version 3 not 1 to 200; or m is not 0
+                                      * to 64 */
     ULMERASCIO_REFUSED_LENGTH = 4,   /* stated length, table_len and 5 + sn + 6m are not all
                                       * equal */
     ULMERASCIO_REFUSED_NUMBERS = 5,  /* T, C, D, J or a delay out of range, or the earliest delay
