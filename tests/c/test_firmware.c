@@ -4,8 +4,8 @@
  * from both starts; and the engine, the checker and the second analysis with the analysis. The
  * second analysis gets every table that the analysis gets, and the tables of the first file with
  * longer deadlines too. The places of refusals and some rounds are also compared with what was
- * worked out by hand, and so are tables in which tasks share a priority, some claims, and tables
- * with deadlines past the period. */
+ * worked out by hand, and so are tables in which tasks share a priority, some claims, tables with
+ * deadlines past the period, and tables of version 3. */
 #include <stdio.h>
 #include <stdlib.h>
 #include <string.h>
@@ -14,11 +14,13 @@
 #include "ulmerascio.h"
 
 enum {
-    LONGEST_SLICE = 40,
+    LONGEST_SLICE = 255,
+    LAST_LENGTH = 40,    /* of slices, where every length is tried */
     GUARD = 8,           /* words on both sides of a slice, which must stay */
     ENTRY_HEADER = 4,    /* table length (2), answers length (1), rounds length (1) */
     CLAIMS_HEADER = 3,   /* table length (2), number of claims (1) */
     MOST_CLAIMS = 255,
+    MOST_EACH = 40,      /* tasks of a table, where each of them is tried */
     FEWEST_LISTS = 1000, /* the file with claims has more */
     WORKED_TABLES = 15,  /* the file begins with document 01's worked tables */
     FIFTH_TABLE = 4,
@@ -109,10 +111,17 @@ static int helpers_agree(uint64_t verdict)
         && (code == 0 || code == 254 || code == 255 || refused);
 }
 
-/* Where the bytes of a table stand; a record has 17 bytes in version 1 and 21 in version 2 (L4). */
+/* Where the bytes of a table stand; a record has 17 bytes in version 1 and 21 in versions 2 and 3
+ * (L4, L9). */
 static size_t record_at(uint8_t version, size_t i)
 {
-    return 5 + (version == 2 ? 21 : 17) * i;
+    return 5 + (version == 1 ? 17 : 21) * i;
+}
+
+/* How many delays a record has. */
+static size_t delays_in(uint8_t version)
+{
+    return version == 1 ? 1 : 2;
 }
 
 static uint32_t word_at(const uint8_t *at)
@@ -145,8 +154,8 @@ static size_t tasks_of(struct table table)
 /* Can the place be that of such a verdict? A late or open task, or one whose claim fails, has a
  * number.
  * Refusals 3, 5, 6 and 7 point at the first byte of a field (document 02, L3): n or m; T, C, D or
- * J, at 1, 5, 9 or 13 in a record, and in version 2 (L4) a delay at 13 or 17; the priority, at 0 in
- * it; one of the three at 0, 1 and 2 in a row. */
+ * J, at 1, 5, 9 or 13 in a record, and from version 2 on (L4) a delay at 13 or 17; the priority, at
+ * 0 in it; one of the three at 0, 1 and 2 in a row. */
 static int place_fits(struct table table, uint64_t verdict)
 {
     size_t place = ulmerascio_place(verdict), n = tasks_of(table);
@@ -471,12 +480,14 @@ static uint32_t claim_of(enum kind kind, uint32_t answer, uint32_t deadline)
     }
 }
 
-/* Each kind for all n tasks; then for one task alone, where the others have their answers. */
+/* Each kind for all n tasks; then for one task alone, where the others have their answers: for each
+ * task, or of many tasks for the last and one in 33 before it. */
 static void try_kinds(const char *what, size_t number, struct table table, size_t n,
                       const struct outcome *analysed)
 {
     const uint32_t *answers = analysed->answers + GUARD;
     uint32_t words[LONGEST_SLICE];
+    size_t step = n > MOST_EACH ? 33 : 1;
 
     for (enum kind kind = ANSWER; kind < KINDS; kind++) {
         for (size_t i = 0; i < n; i++)
@@ -485,7 +496,7 @@ static void try_kinds(const char *what, size_t number, struct table table, size_
     }
     for (size_t i = 0; i < n; i++)
         words[i] = answers[i];
-    for (size_t i = 0; i < n; i++) {
+    for (size_t i = (n - 1) % step; i < n; i += step) {
         for (enum kind kind = TICK_MORE; kind < KINDS; kind++) {
             words[i] = claim_of(kind, answers[i], deadline_at(table, i));
             compare_claims(what, number, table, (struct claims){words, n}, analysed);
@@ -545,7 +556,7 @@ static uint8_t *read_file(const char *name, size_t *length)
 /* All slice lengths on a worked table; only those about n where a call takes many rounds. */
 static void try_slice_lengths(size_t number, struct table table, const struct outcome *first)
 {
-    size_t n = table.bytes[3], last = LONGEST_SLICE;
+    size_t n = table.bytes[3], last = LAST_LENGTH;
 
     for (size_t i = 0; i < n; i++)
         if (first->rounds[GUARD + i] > MANY_ROUNDS)
@@ -553,7 +564,7 @@ static void try_slice_lengths(size_t number, struct table table, const struct ou
     for (size_t answers_len = 0; answers_len <= last; answers_len++)
         for (size_t rounds_len = 0; rounds_len <= last; rounds_len++)
             compare("worked table", number, table, answers_len, rounds_len);
-    for (size_t answers_len = 0; answers_len <= LONGEST_SLICE; answers_len++)
+    for (size_t answers_len = 0; answers_len <= LAST_LENGTH; answers_len++)
         compare_play("worked table", number, table, answers_len);
 }
 
@@ -646,7 +657,7 @@ static const uint8_t delays_and_rows[] = {
 /* Faults of that. A change of byte 0 to 2 changes nothing. */
 static const struct fault delay_faults[] = {
     {{{0, 0}, {0, 0}}, 2, 0},
-    {{{0, 3}, {3, 33}}, 2, 0},
+    {{{0, 9}, {3, 33}}, 2, 0},
     {{{0, 1}, {0, 1}}, 4, 0},     /* in version 1 it would be shorter */
     {{{3, 33}, {0, 2}}, 3, 3},
     {{{4, 65}, {0, 2}}, 3, 4},
@@ -689,11 +700,12 @@ static uint8_t *copy_bytes(const uint8_t *bytes, size_t length, size_t room)
  * the analysis refuses. */
 static void expect(const char *what, size_t number, struct table table, uint64_t wanted)
 {
-    struct outcome outcome = compare(what, number, table, 32, 32);
+    size_t length = ULMERASCIO_MOST_TASKS;
+    struct outcome outcome = compare(what, number, table, length, length);
     struct played played;
 
-    compare_play(what, number, table, 32);
-    call_engine(ulmerascio_play, table, 32, &played);
+    compare_play(what, number, table, length);
+    call_engine(ulmerascio_play, table, length, &played);
     try_claims(what, number, table);
     if (outcome.verdict != wanted || played.verdict != wanted) {
         printf("c: %s %lu: verdict %llx, played %llx, not %llx\n", what, (unsigned long)number,
@@ -800,7 +812,7 @@ static size_t write_table(uint8_t *at, uint8_t version, const struct task *tasks
         at = write_word(at, tasks[i].T);
         at = write_word(at, tasks[i].C);
         at = write_word(at, tasks[i].D);
-        for (uint8_t delays = version; delays; delays--)
+        for (size_t delays = delays_in(version); delays; delays--)
             at = write_word(at, 0);
     }
     return length;
@@ -904,7 +916,7 @@ static void try_neighbours(size_t place, uint8_t version)
 
 static void try_groups(void)
 {
-    for (uint8_t version = 1; version <= 2; version++) {
+    for (uint8_t version = 1; version <= 3; version++) {
         for (size_t i = 0; i < sizeof grouped_tables / sizeof grouped_tables[0]; i++)
             try_grouped(i, &grouped_tables[i], version);
         for (size_t place = 1; place < 32; place++)
@@ -995,7 +1007,7 @@ static void expect_past(const char *what, size_t number, struct table table, uin
         }
 }
 
-/* At last the table gets a delay, in version 2 one that is always the same. */
+/* At last the table gets a delay, from version 2 on one that is always the same. */
 static void try_overlapping(size_t number, const struct overlapping *overlapping, uint8_t version)
 {
     static const char what[] = "table past the period";
@@ -1014,14 +1026,14 @@ static void try_overlapping(size_t number, const struct overlapping *overlapping
         expect_words("answers", past.answers, overlapping->answers, n);
         expect_words("tried", past.rounds, overlapping->tried, n);
     }
-    for (uint8_t delay = 0; delay < version; delay++)
+    for (size_t delay = 0; delay < delays_in(version); delay++)
         bytes[record_at(version, n) - 4 * delay - 1] = 1;
     expect_past(what, number, table, wanted == DEADLINE_REFUSED ? wanted : (uint64_t)11 << 32);
 }
 
 static void try_overlaps(void)
 {
-    for (uint8_t version = 1; version <= 2; version++)
+    for (uint8_t version = 1; version <= 3; version++)
         for (size_t i = 0; i < sizeof overlapping_tables / sizeof overlapping_tables[0]; i++)
             try_overlapping(i, &overlapping_tables[i], version);
 }
@@ -1091,7 +1103,7 @@ static void try_claimed(size_t number, const struct claimed *claimed, uint8_t ve
 
 static void try_claims_by_hand(void)
 {
-    for (uint8_t version = 1; version <= 2; version++)
+    for (uint8_t version = 1; version <= 3; version++)
         for (size_t i = 0; i < sizeof claimed_tables / sizeof claimed_tables[0]; i++)
             try_claimed(i, &claimed_tables[i], version);
 }
@@ -1134,15 +1146,34 @@ static void try_claims_file(const char *name)
     free(data);
 }
 
-/* Version 2 with 32 tasks and 64 rows, in room for one byte more, which is 0. */
-static uint8_t *longest_table(void)
+/* How many tasks and bytes a table of version 2 or 3 may have. */
+static size_t most_tasks(uint8_t version)
 {
-    static const uint8_t head[] = {2, 1061 / 256, 1061 % 256, 32, 64};
-    uint8_t *bytes = copy_bytes(head, sizeof head, ULMERASCIO_LONGEST_TABLE + 1);
+    return version == 3 ? ULMERASCIO_MOST_TASKS : 32;
+}
+
+static size_t longest_length(uint8_t version)
+{
+    return record_at(version, most_tasks(version)) + 6 * 64;
+}
+
+static void write_length(uint8_t *bytes, size_t length)
+{
+    bytes[1] = (uint8_t)(length / 256);
+    bytes[2] = (uint8_t)(length % 256);
+}
+
+/* Version 2 or 3 with the most tasks and 64 rows, two for each of the last 32 tasks, in room for one
+ * byte more, which is 0. */
+static uint8_t *longest_table(uint8_t version)
+{
+    uint8_t n = (uint8_t)most_tasks(version), head[] = {version, 0, 0, n, 64};
+    uint8_t *bytes = copy_bytes(head, sizeof head, longest_length(version) + 1);
     uint8_t *at = bytes + sizeof head;
 
-    for (uint32_t i = 0; i < 32; i++) {
-        *at++ = (uint8_t)(32 - i);
+    write_length(bytes, longest_length(version));
+    for (uint32_t i = 0; i < n; i++) {
+        *at++ = (uint8_t)(n - i);
         at = write_word(at, 1000 + i);
         at = write_word(at, 3);
         at = write_word(at, 1000 + i);
@@ -1150,54 +1181,222 @@ static uint8_t *longest_table(void)
         at = write_word(at, 5 + i);
     }
     for (uint32_t r = 0; r < 64; r++) {
-        *at++ = (uint8_t)(r / 2);
+        *at++ = (uint8_t)(n - 32 + r / 2);
         *at++ = r % 2 ? 16 : 1;
         at = write_word(at, 2 + r % 2);
     }
     return bytes;
 }
 
-/* 1,061 bytes are taken, one less or more is refused; and every byte is changed once. */
-static void try_longest(void)
+/* Its 1,061 or 4,589 bytes are taken, one less or more is refused; and every byte is changed once,
+ * in version 3 the last and one in 23 before it. */
+static void try_longest(uint8_t version)
 {
-    uint8_t *bytes = longest_table();
-    struct table table = {bytes, ULMERASCIO_LONGEST_TABLE};
+    uint8_t *bytes = longest_table(version);
+    struct table table = {bytes, longest_length(version)};
+    size_t n = most_tasks(version), step = version == 3 ? 23 : 1;
 
-    if (compare("longest table", 0, table, 32, 32).verdict != 0) {
-        printf("c: the longest table is not schedulable\n");
+    if (compare("longest table", version, table, n, n).verdict != 0) {
+        printf("c: the longest table of version %d is not schedulable\n", version);
         exit(1);
     }
-    expect("table of 1060 bytes", 0, (struct table){bytes, 1060}, (uint64_t)4 << 32);
-    expect("table of 1062 bytes", 0, (struct table){bytes, 1062}, (uint64_t)4 << 32);
-    bytes[2] = 1062 % 256;
-    expect("table of 1062 bytes", 1, (struct table){bytes, 1062}, (uint64_t)4 << 32);
-    bytes[2] = 1061 % 256;
-    for (size_t i = 0; i < table.length; i++) {
+    expect("table a byte too short", version, (struct table){bytes, table.length - 1},
+           (uint64_t)4 << 32);
+    expect("table a byte too long", version, (struct table){bytes, table.length + 1},
+           (uint64_t)4 << 32);
+    write_length(bytes, table.length + 1);
+    expect("table that says so", version, (struct table){bytes, table.length + 1},
+           (uint64_t)4 << 32);
+    write_length(bytes, table.length);
+    for (size_t i = (table.length - 1) % step; i < table.length; i += step) {
         uint8_t old = bytes[i];
 
         bytes[i] = old ^ 0xFF;
-        compare("longest table with another byte", i, table, 32, 32);
-        compare_play("longest table with another byte", i, table, 32);
+        compare("longest table with another byte", i, table, n, n);
+        compare_play("longest table with another byte", i, table, n);
         try_claims("longest table with another byte", i, table);
         bytes[i] = old;
     }
     free(bytes);
 }
 
-/* The same table with so many neighbours in one group, the last group with what is left. */
-static void try_group_sizes(void)
+/* The same table with so many neighbours in one group, the last group with what is left; in version
+ * 3 with 2, 27, 52 and so on. */
+static void try_group_sizes(uint8_t version)
 {
-    uint8_t *bytes = longest_table();
-    struct table table = {bytes, ULMERASCIO_LONGEST_TABLE};
+    uint8_t *bytes = longest_table(version);
+    struct table table = {bytes, longest_length(version)};
+    size_t n = most_tasks(version), step = version == 3 ? 25 : 1;
 
-    for (size_t size = 2; size <= 32; size++) {
-        for (size_t i = 0; i < 32; i++)
-            bytes[5 + 21 * i] = (uint8_t)(32 - i / size);
-        compare("longest table in groups", size, table, 32, 32);
-        compare_play("longest table in groups", size, table, 32);
+    for (size_t size = 2; size <= n; size += step) {
+        for (size_t i = 0; i < n; i++)
+            bytes[record_at(version, i)] = (uint8_t)(n - i / size);
+        compare("longest table in groups", size, table, n, n);
+        compare_play("longest table in groups", size, table, n);
         try_claims("longest table in groups", size, table);
     }
     free(bytes);
+}
+
+/* A change to the longest table of version 3, and the refusal that it brings. Record 199 begins at
+ * byte 4184, row 63 at byte 4583. */
+struct wide_fault {
+    size_t at;
+    uint8_t to;
+    uint32_t refusal, place;
+};
+
+static const struct wide_fault wide_faults[] = {
+    {0, 0, 2, 0},
+    {0, 4, 2, 0},
+    {0, 9, 2, 0},
+    {0, 2, 3, 3},          /* version 2 has no 200 tasks */
+    {0, 1, 3, 3},
+    {3, 0, 3, 3},
+    {3, 201, 3, 3},
+    {3, 255, 3, 3},
+    {4, 65, 3, 4},
+    {3, 199, 4, 0},
+    {4185, 1, 5, 4185},    /* T is above 1,000,000 */
+    {4192, 0, 5, 4189},    /* C is 0 */
+    {4196, 0xB0, 5, 4193}, /* D is T + 1 */
+    {4197, 1, 5, 4197},    /* the earliest delay is above 1,000,000 */
+    {4204, 4, 5, 4201},    /* the latest is below the earliest */
+    {4201, 1, 5, 4201},    /* the latest is above 1,000,000 */
+    {4184, 0, 6, 4184},
+    {4184, 3, 6, 4184},    /* the priority rises above the record before */
+    {4583, 200, 7, 4583},  /* the place is n */
+    {4583, 255, 7, 4583},
+    {4584, 17, 7, 4584},   /* the semaphore is 17 */
+    {4588, 4, 7, 4585},    /* the length is C + 1 */
+    {4588, 0, 7, 4585},
+    {4583, 198, 7, 4583},  /* out of order */
+    {4584, 1, 7, 4583},    /* as the row before it */
+};
+
+static void try_wide_faults(void)
+{
+    uint8_t *bytes = longest_table(3);
+
+    for (size_t i = 0; i < sizeof wide_faults / sizeof wide_faults[0]; i++) {
+        const struct wide_fault *fault = &wide_faults[i];
+        uint8_t old = bytes[fault->at];
+
+        bytes[fault->at] = fault->to;
+        expect("fault of version 3", i, (struct table){bytes, longest_length(3)},
+               (uint64_t)fault->refusal << 32 | fault->place);
+        bytes[fault->at] = old;
+    }
+    free(bytes);
+}
+
+/* Writes a version 3 table of n tasks alike, with priorities n to 1. There is room for one task more
+ * than there may be. */
+static struct table wide_table(uint8_t *bytes, size_t n, uint32_t T, uint32_t C, uint32_t D)
+{
+    struct task tasks[ULMERASCIO_MOST_TASKS + 1];
+
+    for (size_t i = 0; i < n; i++)
+        tasks[i] = (struct task){(uint8_t)(n - i), T, C, D};
+    return (struct table){bytes, write_table(bytes, 3, tasks, n)};
+}
+
+/* The numbers C, 2C, 3C and so on. */
+static void count_up(uint32_t *words, size_t n, uint32_t C)
+{
+    for (size_t i = 0; i < n; i++)
+        words[i] = C * (uint32_t)(i + 1);
+}
+
+/* Lists of n claims, of which the last is as it should be or one too small; of one too few, one too
+ * many, and none. */
+static void try_wide_claims(struct table table, size_t n)
+{
+    static const char what[] = "claims for version 3";
+    uint32_t words[ULMERASCIO_MOST_TASKS + 1];
+
+    count_up(words, n + 1, 1);
+    expect_claims(what, n, table, (struct claims){words, n}, 0);
+    expect_claims(what, n, table, (struct claims){words, n - 1}, (uint64_t)10 << 32);
+    expect_claims(what, n, table, (struct claims){words, n + 1}, (uint64_t)10 << 32);
+    expect_claims(what, n, table, (struct claims){words, 0}, (uint64_t)10 << 32);
+    words[n - 1]--;
+    expect_claims(what, n, table, (struct claims){words, n}, LATE_AT(n - 1));
+}
+
+/* n tasks of one tick each: the answers are 1 to n. Then the last one has a tick too few. */
+static void try_counted(size_t n)
+{
+    static const char what[] = "table of version 3";
+    uint8_t bytes[5 + 21 * (ULMERASCIO_MOST_TASKS + 1)];
+    uint32_t answers[ULMERASCIO_MOST_TASKS], ones[ULMERASCIO_MOST_TASKS];
+    struct table table = wide_table(bytes, n, 1000, 1, 1000);
+    struct outcome outcome;
+
+    count_up(answers, n, 1);
+    for (size_t i = 0; i < n; i++)
+        ones[i] = 1;
+    outcome = compare(what, n, table, n, LONGEST_SLICE);
+    expect_verdict(what, n, outcome.verdict, 0);
+    expect_words("answers", outcome.answers, answers, n);
+    expect_rounds(&every_cost, table, ones);
+    expect_past(what, n, table, 0);
+    expect_played(what, n, table, n, 0);
+    expect_played(what, n, table, LONGEST_SLICE, 0);
+    expect_played(what, n, table, n - 1, (uint64_t)8 << 32);
+    expect_verdict(what, n, compare(what, n, table, n - 1, n).verdict, (uint64_t)8 << 32);
+    expect_verdict(what, n, compare(what, n, table, n, n - 1).verdict, (uint64_t)8 << 32);
+    try_wide_claims(table, n);
+    if (n > 1) {
+        write_word(bytes + record_at(3, n - 1) + 9, (uint32_t)n - 1);
+        expect("last task too late", n, table, LATE_AT(n - 1));
+    }
+}
+
+/* One task more than there may be, in each version; and 33 tasks as version 2 and 3. */
+static void try_counts_of_versions(void)
+{
+    uint8_t bytes[5 + 21 * (ULMERASCIO_MOST_TASKS + 1)];
+    struct table table = wide_table(bytes, ULMERASCIO_MOST_TASKS + 1, 1000, 1, 1000);
+
+    expect("201 tasks", 3, table, ((uint64_t)3 << 32) + 3);
+    for (size_t n = 32; n <= 33; n++) {
+        table = wide_table(bytes, n, 1000, 1, 1000);
+        expect("table of versions 2 and 3", n, table, 0);
+        bytes[0] = 2;
+        expect("table of versions 2 and 3", n, table, n == 32 ? 0 : ((uint64_t)3 << 32) + 3);
+    }
+}
+
+/* 200 tasks with deadlines of four periods: together they take exactly one period. A tick less of it
+ * leaves the last one open: "R is 498,750 + q". Then a delay. */
+static void try_wide_overlaps(void)
+{
+    static const char what[] = "table of 200 tasks past the period";
+    uint8_t bytes[5 + 21 * (ULMERASCIO_MOST_TASKS + 1)];
+    uint32_t answers[ULMERASCIO_MOST_TASKS];
+    struct table table = wide_table(bytes, 200, 250000, 1250, 1000000);
+    struct outcome past;
+
+    count_up(answers, 200, 1250);
+    expect_past(what, 0, table, 0);
+    call(ulmerascio_analyse_past_period, table, 200, 200, &past);
+    expect_words("answers", past.answers, answers, 200);
+    table = wide_table(bytes, 200, 249999, 1250, 999996);
+    expect_past(what, 1, table, OPEN_AT(199));
+    bytes[record_at(3, 200) - 1] = 1;
+    expect_past(what, 2, table, (uint64_t)11 << 32);
+}
+
+static void try_wide(void)
+{
+    static const size_t counts[] = {1, 32, 33, 63, 64, 65, 128, 129, 192, 193, 199, 200};
+
+    for (size_t i = 0; i < sizeof counts / sizeof counts[0]; i++)
+        try_counted(counts[i]);
+    try_counts_of_versions();
+    try_wide_faults();
+    try_wide_overlaps();
 }
 
 int main(int count, char **words)
@@ -1252,9 +1451,12 @@ int main(int count, char **words)
     free(data);
     try_delays();
     try_groups();
-    try_longest();
-    try_group_sizes();
+    for (uint8_t version = 2; version <= 3; version++) {
+        try_longest(version);
+        try_group_sizes(version);
+    }
     try_overlaps();
+    try_wide();
     try_claims_by_hand();
     try_claims_file(words[2]);
     printf("c: %lu calls agree; %lu plays, %lu of them not refused; %lu lists of claims, %lu of "
