@@ -4910,10 +4910,10 @@ def load_classes():
         yield load_class(count, row_count, "near full load", range(50, 101))
 
 
-def crowded_tasks(periods):
-    """Tasks of cost 1 with these periods, above as many as there is room for with the longest."""
+def crowded_tasks(periods, count=MOST_BEFORE):
+    """So many tasks of cost 1: with these periods, and below them with the longest."""
     short = [(period, 1, period) for period in periods]
-    long = [(GREATEST_TICKS, 1, GREATEST_TICKS)] * (MOST_BEFORE - len(short))
+    long = [(GREATEST_TICKS, 1, GREATEST_TICKS)] * (count - len(short))
     return listed(*(short + long))
 
 
@@ -4998,6 +4998,19 @@ def group_classes():
                    "32 tasks of one priority, the slowest table found", slowest_group_table())
 
 
+def slowest_wide_table():
+    """The greatest cost for 200 tasks that a search over periods, costs and their order found: some
+    3.9 million rounds."""
+    periods = (241, 14, 11, 3, 2, 833625, 606304, 814794, 626154, 428176, 806056, 589842)
+    return Draft(crowded_tasks(periods, MOST_TASKS), version=3).data()
+
+
+def slowest_wide_group_table():
+    """The same, where all tasks share one priority: some 4.9 million rounds."""
+    tasks = crowded_tasks((242, 14, 11, 3, 2, 985521, 982146), MOST_TASKS)
+    return Draft(in_groups(tasks, MOST_TASKS), version=3).data()
+
+
 def wide_load_classes():
     """200 tasks, of version 3; a call takes long, so that there are fewer of them."""
     yield load_class(MOST_TASKS, 0, "light", [30], 3, 10)
@@ -5018,6 +5031,10 @@ def wide_classes():
         fault(draft, number)
         name = "refusal-" + title.replace(",", "").replace(" ", "-")
         yield Measured(name, 100, 200, "refusal " + title, draft.data())
+    yield Measured("200-slowest", 0, 1, "200 tasks, the slowest table found", slowest_wide_table())
+    yield Measured("200-slowest-one-priority", 0, 1,
+                   "200 tasks of one priority, the slowest table found",
+                   slowest_wide_group_table())
 
 
 def measured_classes():
@@ -5178,6 +5195,19 @@ def wide_playable_classes():
     yield Playable("200-refusal-9", "refusal 9, a delay in the last of 200 tasks", draft.data())
 
 
+def stack_tables():
+    """The most tasks of each version, for the stack that calls need: with 64 rows; without, which
+    the engine takes too; and with buffers, which the second analysis takes."""
+    for version, layout in LAYOUTS.items():
+        tasks = loaded_tasks(layout.most_tasks, 80)
+        buffers = buffer_tasks(layout.most_tasks, 95)
+        for name, draft in (
+                ("rows", Draft(tasks, loaded_rows(tasks, MOST_ROWS), version)),
+                ("plain", Draft(tasks, version=version)),
+                ("buffers", Draft(buffers, loaded_rows(buffers, MOST_ROWS), version))):
+            yield "%s-%d" % (name, version), draft.data()
+
+
 # ---------------------------------------------------------------------------
 # Commands
 # ---------------------------------------------------------------------------
@@ -5279,6 +5309,12 @@ def command_plays(arguments):
         print("%s %d %s" % (playable.name, ticks, playable.title))
 
 
+def command_stacks(arguments):
+    os.makedirs(arguments.folder, exist_ok=True)
+    for name, data in stack_tables():
+        write_file(arguments.folder, name + ".table", data)
+
+
 MAKE_HELP = """writes FOLDER/tables and FOLDER/expected, and FOLDER/claims and FOLDER/expected-claims,
 the same bytes at every run
 
@@ -5356,6 +5392,11 @@ def parse_arguments():
                                 description=PLAYS_HELP, formatter_class=raw)
     plays.add_argument("folder", metavar="FOLDER")
     plays.set_defaults(run=command_plays)
+
+    stacks = commands.add_parser("stacks", help="write the tables on which the stack that a call "
+                                 "needs is measured, FOLDER/NAME-VERSION.table")
+    stacks.add_argument("folder", metavar="FOLDER")
+    stacks.set_defaults(run=command_stacks)
     return parser.parse_args()
 
 
