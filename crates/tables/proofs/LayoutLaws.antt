@@ -12,13 +12,14 @@ use Rattle.model.specs.Tables.{Task, Row, noTask, taskOf, priorityOf}
 use Rattle.model.proofs.Lists.{getD-tabulate, length-tabulate}
 use Rattle.model.proofs.Tests.{eqb?, clash}
 use Rattle.tables.specs.declared.layout.Layout.{Layout}
-use Rattle.tables.specs.Layout.{versionOne, versionTwo, noVersion, versionOf, layoutFor, layoutOf, recordStart, taskCount, rowCount, taskAt, rowAt, tasksOf, rowsOf, priorityIn, Sound}
+use Rattle.tables.specs.Layout.{versionOne, versionTwo, versionThree, noVersion, versionOf, layoutFor, layoutOf, recordStart, taskCount, rowCount, taskAt, rowAt, tasksOf, rowsOf, priorityIn, Sound}
 use Rattle.tables.specs.Meaning.{VersionKnown}
 
--- the layout of any bytes is one of three
+-- the layout of any bytes is one of four
 layout-cases : (bytes : List ℕ) →
     ((versionOf bytes ≡ 1) × (layoutOf bytes ≡ versionOne))
-    ⊎ (((versionOf bytes ≡ 2) × (layoutOf bytes ≡ versionTwo)) ⊎ (layoutOf bytes ≡ noVersion))
+    ⊎ (((versionOf bytes ≡ 2) × (layoutOf bytes ≡ versionTwo))
+    ⊎ (((versionOf bytes ≡ 3) × (layoutOf bytes ≡ versionThree)) ⊎ (layoutOf bytes ≡ noVersion)))
 unfolding layoutFor
 layout-cases bytes =
     elim (eqb? (versionOf bytes) 1) [
@@ -26,29 +27,37 @@ layout-cases bytes =
       | inr other ↦
           elim (eqb? (versionOf bytes) 2) [
             | inl two ↦ inr (inl (two .1, rw (other .0, two .0)))
-            | inr none ↦ inr (inr (rw (other .0, none .0)))
+            | inr another ↦
+                elim (eqb? (versionOf bytes) 3) [
+                  | inl three ↦ inr (inr (inl (three .1, rw (other .0, another .0, three .0))))
+                  | inr none ↦ inr (inr (inr (rw (other .0, another .0, none .0))))
+                ]
           ]
     ]
 
--- a layout is known where the version is 1 or 2, and only there
+-- a layout is known where the version is 1, 2 or 3, and only there
 pub known-means : (bytes : List ℕ) → layoutOf bytes .known ≡ true → VersionKnown bytes
 known-means bytes p =
     elim (layout-cases bytes) [
       | inl one ↦ inl (one .0)
-      | inr (inl two) ↦ inr (two .0)
-      | inr (inr none) ↦ absurd (clash _ p (ap (λ (l : Layout). l .known) none))
+      | inr (inl two) ↦ inr (inl (two .0))
+      | inr (inr (inl three)) ↦ inr (inr (three .0))
+      | inr (inr (inr none)) ↦ absurd (clash _ p (ap (λ (l : Layout). l .known) none))
     ]
 
 pub known-holds : (bytes : List ℕ) → VersionKnown bytes → layoutOf bytes .known ≡ true
 unfolding layoutFor
 known-holds bytes (inl one) = rw one
-known-holds bytes (inr two) = rw two
+known-holds bytes (inr (inl two)) = rw two
+known-holds bytes (inr (inr three)) = rw three
 
 -- every layout that is known is sound
 pub layout-sound : (bytes : List ℕ) → VersionKnown bytes → Sound (layoutOf bytes)
 unfolding layoutFor
 layout-sound bytes (inl one) = rw one (record { fields = omega arith; latestInside = omega arith; small = omega arith; few = omega arith })
-layout-sound bytes (inr two) = rw two (record { fields = omega arith; latestInside = omega arith; small = omega arith; few = omega arith })
+layout-sound bytes (inr (inl two)) = rw two (record { fields = omega arith; latestInside = omega arith; small = omega arith; few = omega arith })
+layout-sound bytes (inr (inr three)) =
+    rw three (record { fields = omega arith; latestInside = omega arith; small = omega arith; few = omega arith })
 
 -- no version's records are longer
 pub size-small : (bytes : List ℕ) (layout : Layout) → layout ≡ layoutOf bytes → layout .size ≤ 21
@@ -56,7 +65,8 @@ size-small bytes layout decided =
     elim (layout-cases bytes) [
       | inl one ↦ rw (decided ∙ one .1) (omega arith)
       | inr (inl two) ↦ rw (decided ∙ two .1) (omega arith)
-      | inr (inr none) ↦ rw (decided ∙ none) (omega arith)
+      | inr (inr (inl three)) ↦ rw (decided ∙ three .1) (omega arith)
+      | inr (inr (inr none)) ↦ rw (decided ∙ none) (omega arith)
     ]
 
 module _ (layout : Layout) where

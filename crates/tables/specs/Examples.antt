@@ -1,5 +1,5 @@
 -- Places counted by hand: for each version a table that is not refused, for each field a byte that makes it the first at fault, and
--- for each two that are tested one behind the other a table in which both are (SPECIFICATION 3; document 02, L3, L4 and L6).
+-- for each two that are tested one behind the other a table in which both are (SPECIFICATION 3; document 02, L3, L4, L6 and L9).
 -- Assumes nothing.
 use Prim.Native.Nat.{ℕ}
 use mathlib.Core.Path.{_≡_}
@@ -29,6 +29,10 @@ rightTwo =
     ∷ 0 ∷ 2 ∷ 0 ∷ 0 ∷ 0 ∷ 5
     ∷ 1 ∷ 1 ∷ 0 ∷ 0 ∷ 0 ∷ 4
     ∷ []
+
+-- version 3: the same bytes under its number
+abbrev pub rightThree : List ℕ
+rightThree = set rightTwo 0 3
 
 -- a byte that is changed, and what it is changed to
 pub record Write : Type 0 where
@@ -72,15 +76,11 @@ changes =
     ∷ change 45 0 7 45
     ∷ []
 
--- the version; n, m, the length; T, C, D of the second record; its earliest delay out of range, its earliest above its latest, its
--- latest out of range; its priority 0, and above that of the first; place, semaphore, length of the second row, and its order
-abbrev pub changesTwo : List Change
-changesTwo =
-    change 0 3 2 0
-    ∷ change 3 33 3 3
-    ∷ change 4 65 3 4
-    ∷ change 2 58 4 0
-    ∷ change 30 0 5 27
+-- In versions 2 and 3, T, C, D of the second record; its earliest delay out of range, its earliest above its latest, its latest out of
+-- range; its priority 0, and above that of the first; place, semaphore, length of the second row, and its order
+abbrev pub fieldChanges : List Change
+fieldChanges =
+    change 30 0 5 27
     ∷ change 34 0 5 31
     ∷ change 38 31 5 35
     ∷ change 39 1 5 39
@@ -93,6 +93,22 @@ changesTwo =
     ∷ change 58 5 7 55
     ∷ change 53 0 7 53
     ∷ []
+
+-- before them the version; n, m, the length
+abbrev pub changesTwo : List Change
+changesTwo = change 0 9 2 0 ∷ change 3 33 3 3 ∷ change 4 65 3 4 ∷ change 2 58 4 0 ∷ fieldChanges
+
+-- and in version 3 the version; n 0; n 33 and 200, which are allowed and other than the length says; n 201; m, the length
+abbrev pub changesThree : List Change
+changesThree =
+    change 0 4 2 0
+    ∷ change 3 0 3 3
+    ∷ change 3 33 4 0
+    ∷ change 3 200 4 0
+    ∷ change 3 201 3 3
+    ∷ change 4 65 3 4
+    ∷ change 2 58 4 0
+    ∷ fieldChanges
 
 -- Two faults at once, in each neighbouring pair of every order, so that no two that are tested one behind the other can change places: the
 -- version and n; n and m; m and the length; the length and a record; T and C; C and D; D and J; J and the priority; T and the priority;
@@ -117,12 +133,11 @@ pairs =
     ∷ faults (write 45 0) (write 50 6) 7 47
     ∷ []
 
--- and in version 2: n and m; T and C; C and D; D and the earliest delay; the earliest and the latest, both out of range; the latest and
--- the priority; place and semaphore; semaphore and length; length and the row's order
-abbrev pub pairsTwo : List Change
-pairsTwo =
-    faults (write 3 33) (write 4 65) 3 3
-    ∷ faults (write 30 0) (write 34 0) 5 27
+-- and in versions 2 and 3: T and C; C and D; D and the earliest delay; the earliest and the latest, both out of range; the latest and the
+-- priority; place and semaphore; semaphore and length; length and the row's order; before them n and m
+abbrev pub fieldPairs : List Change
+fieldPairs =
+    faults (write 30 0) (write 34 0) 5 27
     ∷ faults (write 34 0) (write 38 31) 5 31
     ∷ faults (write 38 31) (write 39 1) 5 35
     ∷ faults (write 39 1) (write 43 1) 5 39
@@ -131,6 +146,12 @@ pairsTwo =
     ∷ faults (write 54 17) (write 58 5) 7 54
     ∷ faults (write 53 0) (write 58 6) 7 55
     ∷ []
+
+abbrev pub pairsTwo : List Change
+pairsTwo = faults (write 3 33) (write 4 65) 3 3 ∷ fieldPairs
+
+abbrev pub pairsThree : List Change
+pairsThree = faults (write 3 201) (write 4 65) 3 3 ∷ fieldPairs
 
 -- the number and the place that are told, and nothing where the table is clean
 abbrev pub told : Check → List ℕ
@@ -173,6 +194,9 @@ pub record PlacesDrawn : Type 0 where
   pub cleanTwo : tableCheck rightTwo 2 2 ≡ Clean
   pub placesTwo : map (toldOf rightTwo) changesTwo ≡ map wantedOf changesTwo
   pub twoFaultsTwo : map (toldOf rightTwo) pairsTwo ≡ map wantedOf pairsTwo
+  pub cleanThree : tableCheck rightThree 2 2 ≡ Clean
+  pub placesThree : map (toldOf rightThree) changesThree ≡ map wantedOf changesThree
+  pub twoFaultsThree : map (toldOf rightThree) pairsThree ≡ map wantedOf pairsThree
   pub tiedTwoClean : tableCheck tiedTwo 2 2 ≡ Clean
   -- a deadline past the period is refused where it may span one, and right where it may span four: up to 4 T, and to 1,000,000
   pub pastPeriod : told (tableCheck fourPeriods 2 2) ≡ 5 ∷ 31 ∷ []

@@ -61,12 +61,18 @@ versionOne = record { known = true; size = 17; most = 32; delays = Jitter }
 abbrev pub versionTwo : Layout
 versionTwo = record { known = true; size = 21; most = 32; delays = Pair }
 
+-- "Version 3 has version 2's layout with n up to 200", "Versions 1 and 2 keep their limit of 32."
+abbrev pub versionThree : Layout
+versionThree = record { known = true; size = 21; most = 200; delays = Pair }
+
 -- any other version is not known, and has no record
 abbrev pub noVersion : Layout
 noVersion = record { known = false; size = 0; most = 0; delays = Jitter }
 
+-- "The version byte alone decides which layout and limits hold."
 unfoldable pub layoutFor : ℕ → Layout
-layoutFor version = pick (eqb version 1) versionOne (pick (eqb version 2) versionTwo noVersion)
+layoutFor version =
+    pick (eqb version 1) versionOne (pick (eqb version 2) versionTwo (pick (eqb version 3) versionThree noVersion))
 
 abbrev pub layoutOf : List ℕ → Layout
 layoutOf bytes = layoutFor (versionOf bytes)
@@ -132,7 +138,7 @@ pub record Sound (layout : Layout) : Type 0 where
   pub fields : 17 ≤ layout .size
   pub latestInside : latestAt (layout .delays) + 4 ≤ layout .size
   pub small : layout .size ≤ 21
-  pub few : layout .most ≤ 32
+  pub few : layout .most ≤ 200
 
 -- "task place (1), semaphore (1), longest section (4)": where each begins in its row
 abbrev pub placeAt : ℕ

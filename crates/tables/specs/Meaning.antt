@@ -17,7 +17,7 @@ LongEnough bytes = 5 ≤ length bytes
 
 -- 2: "byte 0 isn't 1", nor 2 (SPECIFICATION 2.2; document 02, L4)
 abbrev pub Known : ℕ → Type 0
-Known version = (version ≡ 1) ⊎ (version ≡ 2)
+Known version = (version ≡ 1) ⊎ ((version ≡ 2) ⊎ (version ≡ 3))
 
 abbrev pub VersionKnown : List ℕ → Type 0
 VersionKnown bytes = Known (versionOf bytes)

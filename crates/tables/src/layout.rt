@@ -1,4 +1,4 @@
-// The layout of a table's records, decided by the version byte (SPECIFICATION 2.2; document 02, L4). Nothing else looks at the version.
+// The layout of a table's records, decided by the version byte (SPECIFICATION 2.2; document 02, L4 and L9). Nothing else looks at the version.
 ghost use mathlib.Core.Path.{_≡_};
 ghost use Rattle.tables.specs.Layout.{layoutFor};
 
@@ -33,6 +33,12 @@ pub fn of(version: u8) -> Layout
             known: true,
             size: 21,
             most: 32,
+            delays: DelayFields::Pair,
+        },
+        3 => Layout {
+            known: true,
+            size: 21,
+            most: 200,
             delays: DelayFields::Pair,
         },
         _ => Layout {

@@ -1,4 +1,4 @@
-// House form, versions 1 and 2: where each field stands, the refusals in their order, and the table that accepted bytes mean.
+// House form, versions 1 to 3: where each field stands, the refusals in their order, and the table that accepted bytes mean.
 ghost use mathlib.Core.Path.{_≡_};
 ghost use Rattle.tables.specs.Refusals.{numberOf, placeOf, isClean};
 

@@ -15,7 +15,11 @@ returns-2 c = rw (c .match .keys2)
 
 returns-3 : tie.Need-returns-3
 unfolding layoutFor
-returns-3 c = rw (ne-eqb _ 1 (c .match .rest .0 .1), ne-eqb _ 2 (c .match .rest .1))
+returns-3 c = rw (c .match .keys3)
+
+returns-4 : tie.Need-returns-4
+unfolding layoutFor
+returns-4 c = rw (ne-eqb _ 1 (c .match .rest .0 .0 .1), ne-eqb _ 2 (c .match .rest .0 .1), ne-eqb _ 3 (c .match .rest .1))
 
 pub of-spec : {M : Type 1} → statement M
-of-spec = tie.close (tie.spec returns returns-2 returns-3)
+of-spec = tie.close (tie.spec returns returns-2 returns-3 returns-4)
