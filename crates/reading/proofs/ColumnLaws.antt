@@ -55,7 +55,7 @@ pub record Taking (table : List ℕ) (room n i m k : ℕ) (oldBytes oldWords byt
 
 -- each task that the head counts has room
 pub tasks-fit : {table : List ℕ} {layout : Layout} {n room : ℕ} {bytes words : List ℕ} → HeadRead table layout n → Lent table room bytes words → n ≤ room
-tasks-fit h lent = omega (arith, lent .tasksFit (h .head), h .counted)
+tasks-fit h lent = omega (arith, lent .tasksFit, h .counted)
 
 pub rows-fit : {table : List ℕ} {layout : Layout} {n m : ℕ} → HeadRead table layout n → m ≡ rowCount table → m ≤ 64
 rows-fit h counted = omega (arith, few-rows _ _ _ h, counted)

@@ -10,7 +10,7 @@ use Rattle.model.specs.Tables.{Task, Row, spreadOf}
 use Rattle.tables.specs.declared.Check.the-variants.{Clean}
 use Rattle.tables.specs.Layout.{taskCount, rowCount, taskAt, rowAt}
 use Rattle.tables.specs.Refusals.{isClean}
-use Rattle.tables.specs.Checks.{headCheck, recordsCheck, readCheck, recordsRead, rowsRead}
+use Rattle.tables.specs.Checks.{recordsCheck, readCheck, rowsRead}
 
 -- a word of each of six columns for each task, and of each of three for each section row
 pub data RecordColumn : Type 0 where
@@ -46,9 +46,9 @@ rowColumns room bytes words placeColumn = part room 64 bytes
 rowColumns room bytes words semaphoreColumn = part (room + 64) 64 bytes
 rowColumns room bytes words longestColumn = part (5 * room) 64 words
 
--- the slices are as long as their columns, which have room for each task of a table with a right head
+-- the slices are as long as their columns, which have room for each task of the table
 pub record Lent (table : List ℕ) (room : ℕ) (bytes words : List ℕ) : Type 0 where
-  pub tasksFit : headCheck table ≡ Clean → taskCount table ≤ room
+  pub tasksFit : taskCount table ≤ room
   pub bytesLong : length bytes ≡ room + 128
   pub wordsLong : length words ≡ 5 * room + 64
 
@@ -77,12 +77,9 @@ rowIn bytes c k = rowNumber c (rowAt bytes k)
 pub record Filled {C : Type 0} (value : C → ℕ → ℕ) (k : ℕ) (old new : C → List ℕ) : Type 0 where
   pub is : (c : C) → new c ≡ filled (value c) k (old c)
 
--- no record is read where the head is refused, and no row where a record is
-abbrev pub recordsReached : ℕ → List ℕ → ℕ
-recordsReached span bytes = on (isClean (headCheck bytes)) (recordsRead span bytes)
-
+-- no row is read where a record is refused
 abbrev pub rowsReached : ℕ → List ℕ → ℕ
-rowsReached span bytes = on (isClean (headCheck bytes)) (on (isClean (recordsCheck span bytes)) (rowsRead bytes))
+rowsReached span bytes = on (isClean (recordsCheck span bytes)) (rowsRead bytes)
 
 -- a slice holds f 0 to f (n − 1)
 pub record Holds (words : List ℕ) (n : ℕ) (f : ℕ → ℕ) : Type 0 where

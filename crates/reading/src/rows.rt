@@ -6,6 +6,7 @@ ghost use Rattle.tables.specs.Layout.{rowFrom, rowCount, costIn};
 ghost use Rattle.tables.specs.Checks.{rowsCheck, rowsRead};
 ghost use Rattle.reading.specs.Columns.{costColumn, recordColumns, rowColumns, recordIn, rowIn, Lent, Filled, Holds};
 ghost use Rattle.reading.specs.Reading.{HeadRead, rowOf, rowKey, atRow, rowFault};
+use crate::ROW_ROOM;
 use model::Place;
 use model::Ticks;
 use tables::Check;
@@ -24,9 +25,6 @@ use tables::fields::within;
 use tables::fields::word;
 use tables::is_clean;
 use tables::layout::Layout;
-
-// Each column of the rows has room for the most that any version has.
-const ROW_ROOM: usize = 64;
 
 // One row's numbers.
 pub struct RowRecord {

@@ -1,45 +1,51 @@
--- `reading::read` meets its contract: the head, then the records, then the rows, each where all before it is clean.
+-- `reading::read` meets its contract: behind a right head the records, and then the rows where no record is refused.
 -- Assumes nothing.
 use native.Mathlib.Omega.{arith}
-use mathlib.Core.Path.{_∙_}
 use Rattle.model.proofs.Tests.{refuted, confirmed}
 use Rattle.tables.proofs.CheckLaws.{head-right}
 use Rattle.reading.specs.Columns.{costColumn}
-use Rattle.reading.proofs.StageLaws.{lent-again, column-room, head-stops, head-clean, records-stop, costs-held, rows-decide}
+use Rattle.reading.proofs.StageLaws.{lent-again, column-room, records-stop, costs-held, rows-decide}
+use borrow.Author.Needs.{needs}
 use Rattle.reading.proofs.read.Statement.{statement}
 use Rattle.reading.proofs.read.Tie as tie
 
+shared-slice-read-of : tie.Need-shared-slice-read-of
+shared-slice-read-of c = omega (arith, head-right _ (c .before .before .before .before .pre .0) .longEnough)
+
+shared-slice-read-count : tie.Need-shared-slice-read-count
+shared-slice-read-count c = omega (arith, head-right _ (c .before .before .before .before .before .before .pre .0) .longEnough)
+
 returns : tie.Need-returns
-returns c = head-stops _ _ _ (c .before .before .check .ensures) (refuted (c .before .is-clean .ensures) (c .if1 .taken)) _ _
+returns c = records-stop _ _ (c .before .before .before .before .before .before .before .before .before .before .before .before .before .before .before .before .pre .0) _ (c .before .before .before .before .before .before .read-all .ensures .0) (c .before .before .before .before .before .before .read-all .ensures .1) (refuted (c .before .is-clean .ensures) (c .if1 .taken))
 
-read-all-requires : tie.Need-read-all-requires
-read-all-requires c κs = ((record { head = head-clean _ _ (c .before .before .before .before .before .before .before .before .check .ensures) (confirmed (c .before .before .before .before .before .before .before .is-clean .ensures) (c .before .before .before .before .before .before .if1 .left)); decided = c .before .before .before .before .of .ensures; counted = c .before .before .count .ensures .0 }, c .before .before .before .before .before .before .before .before .before .before .before .before .pre .0), c .before .before .before .before .before .before .before .before .before .before .before .before .pre .1)
-
-returns-2 : tie.Need-returns-2
-returns-2 c = records-stop _ _ _ (c .before .before .before .before .before .before .before .before .before .before .before .before .before .before .before .check .ensures) (confirmed (c .before .before .before .before .before .before .before .before .before .before .before .before .before .before .is-clean .ensures) (c .before .before .before .before .before .before .before .before .before .before .before .before .before .if1 .left)) _ (c .before .before .before .before .before .before .read-all .ensures .0) (c .before .before .before .before .before .before .read-all .ensures .1) (refuted (c .before .is-clean2 .ensures) (c .if2 .taken))
+shared-slice-read-count-2 : tie.Need-shared-slice-read-count-2
+shared-slice-read-count-2 c = omega (arith, head-right _ (c .before .before .before .before .before .before .before .before .before .before .before .before .before .before .before .before .before .pre .0) .longEnough)
 
 read-all-requires-2 : tie.Need-read-all-requires-2
 read-all-requires-2 c κs = (
-  (record { head = head-clean _ _ (c .before .before .before .before .before .before .before .before .before .before .before .before .before .before .before .before .before .before .before .check .ensures) (confirmed (c .before .before .before .before .before .before .before .before .before .before .before .before .before .before .before .before .before .before .is-clean .ensures) (c .before .before .before .before .before .before .before .before .before .before .before .before .before .before .before .before .before .if1 .left)); decided = c .before .before .before .before .before .before .before .before .before .before .before .before .before .before .before .of .ensures; counted = c .before .before .before .before .before .before .before .before .before .before .before .before .before .count .ensures .0 }, c .before .before .count2 .ensures .0),
-  (lent-again (c .before .before .before .before .before .before .before .before .before .before .before .before .before .before .before .before .before .before .before .before .before .before .before .pre .1) (c .before .before .before .before .before .before .before .before .before .before .read-all .kept .1 .1 .1 .1 .1 .0) (c .before .before .before .before .before .before .before .before .before .before .read-all .kept .1 .1 .1 .1 .1 .1 .0), costs-held _ _ _ (c .before .before .before .before .before .before .before .before .before .before .before .before .before .before .before .before .before .before .before .check .ensures) (confirmed (c .before .before .before .before .before .before .before .before .before .before .before .before .before .before .before .before .before .before .is-clean .ensures) (c .before .before .before .before .before .before .before .before .before .before .before .before .before .before .before .before .before .if1 .left)) _ (c .before .before .before .before .before .before .before .before .before .before .read-all .ensures .0) (c .before .before .before .before .before .before .before .before .before .before .read-all .ensures .1) (confirmed (c .before .before .before .before .before .is-clean2 .ensures) (c .before .before .before .before .if2 .left)) _ (c .before .before .before .before .before .before .before .before .before .before .before .before .before .count .ensures .0) (column-room (c .before .before .before .before .before .before .before .before .before .before .before .before .before .before .before .before .before .before .before .before .before .before .before .pre .1) (head-clean _ _ (c .before .before .before .before .before .before .before .before .before .before .before .before .before .before .before .before .before .before .before .check .ensures) (confirmed (c .before .before .before .before .before .before .before .before .before .before .before .before .before .before .before .before .before .before .is-clean .ensures) (c .before .before .before .before .before .before .before .before .before .before .before .before .before .before .before .before .before .if1 .left))) costColumn)),
+  (record { head = c .before .before .before .before .before .before .before .before .before .before .before .before .before .before .before .before .before .before .before .before .pre .0; decided = c .before .before .before .before .before .before .before .before .before .before .before .before .before .before .before .of .ensures; counted = c .before .before .before .before .before .before .before .before .before .before .before .before .before .count .ensures .0 }, c .before .before .count2 .ensures .0),
+  (lent-again (c .before .before .before .before .before .before .before .before .before .before .before .before .before .before .before .before .before .before .before .before .pre .1 .1) (c .before .before .before .before .before .before .before .before .before .before .read-all .kept .1 .1 .1 .1 .1 .0) (c .before .before .before .before .before .before .before .before .before .before .read-all .kept .1 .1 .1 .1 .1 .1 .0), costs-held _ _ (c .before .before .before .before .before .before .before .before .before .before .before .before .before .before .before .before .before .before .before .before .pre .0) _ (c .before .before .before .before .before .before .before .before .before .before .read-all .ensures .0) (c .before .before .before .before .before .before .before .before .before .before .read-all .ensures .1) (confirmed (c .before .before .before .before .before .is-clean .ensures) (c .before .before .before .before .if1 .left)) _ (c .before .before .before .before .before .before .before .before .before .before .before .before .before .count .ensures .0) (column-room (c .before .before .before .before .before .before .before .before .before .before .before .before .before .before .before .before .before .before .before .before .pre .1 .1) costColumn)),
 )
 
-returns-3 : tie.Need-returns-3
-returns-3 c = rows-decide _ _ _ (c .before .before .before .before .before .before .before .before .before .before .before .before .before .before .before .before .before .before .before .before .before .before .before .before .check .ensures) (confirmed (c .before .before .before .before .before .before .before .before .before .before .before .before .before .before .before .before .before .before .before .before .before .before .before .is-clean .ensures) (c .before .before .before .before .before .before .before .before .before .before .before .before .before .before .before .before .before .before .before .before .before .before .if1 .left)) _ (c .before .before .before .before .before .before .before .before .before .before .before .before .before .before .before .read-all .ensures .0) (c .before .before .before .before .before .before .before .before .before .before .before .before .before .before .before .read-all .ensures .1) (confirmed (c .before .before .before .before .before .before .before .before .before .before .is-clean2 .ensures) (c .before .before .before .before .before .before .before .before .before .if2 .left)) _ (c .before .before .before .before .read-all2 .ensures)
+returns-2 : tie.Need-returns-2
+returns-2 c = rows-decide _ _ (c .before .before .before .before .before .before .before .before .before .before .before .before .before .before .before .before .before .before .before .before .before .before .before .before .before .pre .0) _ (c .before .before .before .before .before .before .before .before .before .before .before .before .before .before .before .read-all .ensures .0) (c .before .before .before .before .before .before .before .before .before .before .before .before .before .before .before .read-all .ensures .1) (confirmed (c .before .before .before .before .before .before .before .before .before .before .is-clean .ensures) (c .before .before .before .before .before .before .before .before .before .if1 .left)) _ (c .before .before .before .before .read-all2 .ensures)
 
 pub read-spec : {M : Type 1} → statement M
 read-spec =
     tie.close
-    (tie.spec (λ c κs. tt) (λ c κs. tt) returns
-    (λ c. omega (arith, head-right _ (head-clean _ _ (c .before .before .before .check .ensures) (confirmed (c .before .before .is-clean .ensures) (c .before .if1 .left))) .longEnough))
-    (λ c κs. tt)
-    (λ c. omega (arith, head-right _ (head-clean _ _ (c .before .before .before .before .before .check .ensures) (confirmed (c .before .before .before .before .is-clean .ensures) (c .before .before .before .if1 .left))) .longEnough))
-    (λ c κs. tt) read-all-requires (λ c κs. tt)
-    (λ c. c .before .before .before .before .before .before .read-all .kept .1 .1 .1 .1 .1 .0)
-    (λ c. c .before .before .before .before .before .before .read-all .kept .1 .1 .1 .1 .1 .1 .0)
-    returns-2
-    (λ c. omega (arith, head-right _ (head-clean _ _ (c .before .before .before .before .before .before .before .before .before .before .before .before .before .before .before .before .check .ensures) (confirmed (c .before .before .before .before .before .before .before .before .before .before .before .before .before .before .before .is-clean .ensures) (c .before .before .before .before .before .before .before .before .before .before .before .before .before .before .if1 .left))) .longEnough))
-    (λ c κs. tt) read-all-requires-2
-    (λ c. c .before .before .before .before .read-all2 .kept .1 .1 .1 .1 .1 .0 ∙ c .before .before .before .before .before .before .before .before .before .before .before .before .before .before .before .read-all .kept .1 .1 .1 .1 .1 .0)
-    (λ c. c .before .before .before .before .read-all2 .kept .1 .1 .1 .1 .1 .1 .0 ∙ c .before .before .before .before .before .before .before .before .before .before .before .before .before .before .before .read-all .kept .1 .1 .1 .1 .1 .1 .0)
-    returns-3)
+    (tie.spec
+    shared-slice-read-of
+    (λ c κs. search needs)
+    shared-slice-read-count
+    (λ c κs. search needs)
+    (λ c κs. search needs)
+    (λ c κs. search needs)
+    (λ c. search needs)
+    (λ c. search needs)
+    returns
+    shared-slice-read-count-2
+    (λ c κs. search needs)
+    read-all-requires-2
+    (λ c. search needs)
+    (λ c. search needs)
+    returns-2)
