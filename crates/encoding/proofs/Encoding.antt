@@ -27,7 +27,8 @@ record-sized : (version : ℕ) → Known version → (t : Task) →
     length (recordBytes (layoutFor version .delays) t) ≡ layoutFor version .size
 unfolding layoutFor
 record-sized version (inl one) t = rw one
-record-sized version (inr two) t = rw two
+record-sized version (inr (inl two)) t = rw two
+record-sized version (inr (inr three)) t = rw three
 
 row-sized : (r : Row) → length (rowBytes r) ≡ 6
 row-sized r = refl
@@ -147,12 +148,12 @@ module _ (version : ℕ) (table : Table) (fits : Fits version table) where
       sound : Sound (layoutFor version)
       sound = layout-sound bytes (fits .known)
 
-      few : length (table .tasks) ≤ 32
+      few : length (table .tasks) ≤ 200
       few = omega (arith, fits .tasks .high, sound .few)
 
-      short : lengthFor (layoutFor version) (length (table .tasks)) (length (table .rows)) ≤ 1061
+      short : lengthFor (layoutFor version) (length (table .tasks)) (length (table .rows)) ≤ 4589
       short =
-          let most : layoutFor version .size * length (table .tasks) ≤ 21 * 32 = mul-le-mul (sound .small) few in
+          let most : layoutFor version .size * length (table .tasks) ≤ 21 * 200 = mul-le-mul (sound .small) few in
           omega (arith, fits .rows .high)
 
       head : AreBytes (headBytes version (length (table .tasks)) (length (table .rows)))
@@ -164,7 +165,8 @@ module _ (version : ℕ) (table : Table) (fits : Fits version table) where
         where
           version-small : Known version → version ≤ 255
           version-small (inl one) = omega arith
-          version-small (inr two) = omega arith
+          version-small (inr (inl two)) = omega arith
+          version-small (inr (inr three)) = omega arith
 
 -- what accepted bytes mean
 module _ (bytes : List ℕ) (are : AreBytes bytes) (right : TableRight bytes) where

@@ -4,8 +4,7 @@ use Prim.Native.Nat.{ℕ, zero, suc, _+_, _*_, _-_, _/_, _%_, _≤_, _<_}
 use native.Mathlib.Omega.{arith}
 use native.Mathlib.Decide.{ℕ-discrete}
 use mathlib.Core.Path.{_≡_, refl, sym}
-use mathlib.Core.Logic.{inl, inr}
-use mathlib.Core.List.{List}
+use mathlib.Core.List.{List, [], _∷_}
 use lib.ListN.{length}
 use Rattle.model.specs.Lists.{tabulate}
 use Rattle.model.specs.Tables.{Task, Row, Table, noTask, taskOf}
@@ -13,15 +12,11 @@ use Rattle.model.proofs.Lists.{length-tabulate, getD-tabulate}
 use Rattle.tables.specs.Fields.{RecordField, periodField, costField, deadlineField, earliestField, latestField, priorityField, RowField, placeField, semaphoreField, longestField, orderField}
 use Rattle.tables.specs.Layout.{layoutFor, taskCount, rowCount, rowAt}
 use Rattle.tables.specs.Meaning.{Known, Within, TaskFieldRight, SectionFieldRight, TableRight}
+use Rattle.tables.proofs.LayoutLaws.{layout-sound}
 use Rattle.encoding.specs.Bytes.{encode}
 use Rattle.encoding.specs.Statements.{noRow, rowOf, Fits, AllShapes}
 use Rattle.encoding.proofs.RuleLaws.{fields-same, sections-same}
 use Rattle.encoding.proofs.Encoding.{encoded}
-
-most-tasks : (version : ℕ) → Known version → layoutFor version .most ≡ 32
-unfolding layoutFor
-most-tasks version (inl one) = rw one
-most-tasks version (inr two) = rw two
 
 module _ (n : ℕ) where
   abbrev shapeTask : ℕ → Task
@@ -62,7 +57,7 @@ module _ (n : ℕ) where
             rw tasks-long
             (sections-same n shapeTask (taskOf (tabulate shapeTask n)) task-at m shapeRow (rowOf (tabulate shapeRow m)) row-at k inside
             (row-right m k inside most));
-        priorities = λ i h. rw (sym (task-at i (omega (arith, tasks-long)))) (omega (arith, few .high, most-tasks version known));
+        priorities = λ i h. rw (sym (task-at i (omega (arith, tasks-long)))) (omega (arith, few .high, layout-sound (version ∷ []) known .few));
         noEarliest = λ e i h. rw (sym (task-at i (omega (arith, tasks-long))));
       }
     where

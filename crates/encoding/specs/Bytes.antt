@@ -1,5 +1,5 @@
--- The bytes of a list of tasks and rows, in either version (SPECIFICATION 2; document 01, "The table's bytes"; document 02, L4). The
--- reader goes from bytes to tasks; this is the way back.
+-- The bytes of a list of tasks and rows, in each version (SPECIFICATION 2; document 01, "The table's bytes"; document 02, L4 and L9).
+-- The reader goes from bytes to tasks; this is the way back.
 -- Assumes nothing.
 use Prim.Native.Nat.{ℕ, _/_, _%_}
 use mathlib.Core.List.{List, [], _∷_, _++_}

@@ -54,8 +54,8 @@ pub record HasShape (version n m : ℕ) (bytes : List ℕ) : Type 0 where
   pub tasks : taskCount bytes ≡ n
   pub rows : rowCount bytes ≡ m
 
--- Which shapes exist: all with 1 task to as many as the version allows, which is 32, and 0 to 64 rows, 32 and 64 among them; but that a
--- task has a row for each of 16 semaphores at most, since rows strictly rise.
+-- Which shapes exist: all with 1 task to as many as the version allows, which is 32, or 200 in version 3 (document 02, L9), and 0 to 64
+-- rows, the greatest numbers among them; but that a task has a row for each of 16 semaphores at most, since rows strictly rise.
 pub record AllShapes : Type 0 where
   pub exist : (version n m : ℕ) → Known version → Within 1 (layoutFor version .most) n → Within 0 64 m → m ≤ 16 * n →
       (bytes : List ℕ) × HasShape version n m bytes
