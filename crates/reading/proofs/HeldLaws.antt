@@ -1,8 +1,8 @@
 -- What an entry needs to read a table, and what it then has.
 -- Assumes nothing.
-use Prim.Native.Nat.{ℕ, _≤_}
+use Prim.Native.Nat.{ℕ, _+_, _-_, _*_, _≤_}
 use native.Mathlib.Omega.{arith}
-use mathlib.Core.Path.{_≡_, sym, _∙_, ap}
+use mathlib.Core.Path.{_≡_, refl, sym, _∙_, ap, subst}
 use mathlib.Core.Bool.{Bool, false}
 use mathlib.Core.List.{List}
 use lib.Dec.{ltb}
@@ -17,7 +17,7 @@ use Rattle.tables.specs.Checks.{headCheck, recordsRead}
 use Rattle.tables.proofs.LayoutLaws.{layout-sound}
 use Rattle.tables.proofs.CheckLaws.{head-right, body-right, read-right, records-all, rows-all}
 use Rattle.tables.proofs.OrderLaws.{read-clean}
-use Rattle.reading.specs.Columns.{RecordColumn, RowColumn, recordColumns, rowColumns, recordIn, rowIn, Lent, rowsReached, TableHeld}
+use Rattle.reading.specs.Columns.{RecordColumn, priorityColumn, periodColumn, costColumn, deadlineColumn, spreadColumn, latestColumn, RowColumn, placeColumn, semaphoreColumn, longestColumn, part, recordColumns, rowColumns, recordIn, rowIn, Lent, Holds, rowsReached, TableHeld}
 use Rattle.reading.proofs.ColumnLaws.{holds-filled, rows-long}
 use Rattle.reading.proofs.StageLaws.{Left, column-room}
 
@@ -52,6 +52,47 @@ module _ (span : ℕ) (table : List ℕ) (room : ℕ) (bytes words : List ℕ) (
             holds-filled (rowIn table c) (rowCount table) (rowColumns room bytes words c) (rows c)
             (left .1 .1 .is c ∙ ap (λ (k : ℕ). filled (rowIn table c) k (rowColumns room bytes words c)) each)
             (rw (rows-long lent c) (head-right table (r .0) .counts rowCountField .high));
+      }
+
+-- the columns as they are cut out of the slices, from a start to an end
+abbrev pub recordSlices : (room : ℕ) (bytes words : List ℕ) → RecordColumn → List ℕ
+recordSlices room bytes words priorityColumn = part 0 room bytes
+recordSlices room bytes words periodColumn = part 0 (room - 0) words
+recordSlices room bytes words costColumn = part room (2 * room - room) words
+recordSlices room bytes words deadlineColumn = part (2 * room) (3 * room - 2 * room) words
+recordSlices room bytes words spreadColumn = part (3 * room) (4 * room - 3 * room) words
+recordSlices room bytes words latestColumn = part (4 * room) (5 * room - 4 * room) words
+
+abbrev pub rowSlices : (room : ℕ) (bytes words : List ℕ) → RowColumn → List ℕ
+rowSlices room bytes words placeColumn = part room (room + 64 - room) bytes
+rowSlices room bytes words semaphoreColumn = part (room + 64) (room + 128 - (room + 64)) bytes
+rowSlices room bytes words longestColumn = part (5 * room) (5 * room + 64 - 5 * room) words
+
+module _ (room : ℕ) (bytes words : List ℕ) where
+  same-part : (list : List ℕ) (start long at many : ℕ) → start ≡ at → long ≡ many → part start long list ≡ part at many list
+  same-part list start long at many starts lengths = λ i. part (starts i) (lengths i) list
+
+  records-cut : (c : RecordColumn) → recordColumns room bytes words c ≡ recordSlices room bytes words c
+  records-cut priorityColumn = refl
+  records-cut periodColumn = same-part words (0 * room) room 0 (room - 0) (omega arith) (omega arith)
+  records-cut costColumn = same-part words (1 * room) room room (2 * room - room) (omega arith) (omega arith)
+  records-cut deadlineColumn = same-part words (2 * room) room (2 * room) (3 * room - 2 * room) refl (omega arith)
+  records-cut spreadColumn = same-part words (3 * room) room (3 * room) (4 * room - 3 * room) refl (omega arith)
+  records-cut latestColumn = same-part words (4 * room) room (4 * room) (5 * room - 4 * room) refl (omega arith)
+
+  rows-cut : (c : RowColumn) → rowColumns room bytes words c ≡ rowSlices room bytes words c
+  rows-cut placeColumn = same-part bytes room 64 room (room + 64 - room) refl (omega arith)
+  rows-cut semaphoreColumn = same-part bytes (room + 64) 64 (room + 64) (room + 128 - (room + 64)) refl (omega arith)
+  rows-cut longestColumn = same-part words (5 * room) 64 (5 * room) (5 * room + 64 - 5 * room) refl (omega arith)
+
+  -- what the columns hold, the slices do
+  pub held-cut : {span : ℕ} {table : List ℕ} → TableHeld span table (recordColumns room bytes words) (rowColumns room bytes words) →
+      TableHeld span table (recordSlices room bytes words) (rowSlices room bytes words)
+  held-cut {span} {table} held =
+      record {
+        clean = held .clean;
+        ofRecords = λ c. subst (λ (column : List ℕ). Holds column (taskCount table) (recordIn table c)) (records-cut c) (held .ofRecords c);
+        ofRows = λ c. subst (λ (column : List ℕ). Holds column (rowCount table) (rowIn table c)) (rows-cut c) (held .ofRows c);
       }
 
 -- what is held breaks no rule

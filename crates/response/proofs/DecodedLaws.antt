@@ -1,11 +1,11 @@
 -- Slices that hold a decoded table give the answers of the table that the bytes mean.
 -- Assumes nothing.
-use Prim.Native.Nat.{ℕ, suc, _+_, _≤_, _<_}
+use Prim.Native.Nat.{ℕ, suc, _+_, _*_, _≤_, _<_}
 use native.Mathlib.Omega.{arith}
 use mathlib.Core.Path.{_≡_, refl, sym, _∙_, ap}
 use mathlib.Core.Bool.{true}
 use mathlib.Core.List.{List}
-use lib.ListN.{length, getD, length-take, replicate, length-replicate, getD-replicate}
+use lib.ListN.{length, getD, replicate, length-replicate, getD-replicate}
 use lib.Seq.{getD-take}
 use lib.Dec.{leb, ltb}
 use borrow.Author.Tests.{leb-true}
@@ -60,30 +60,28 @@ room-is n k answers rounds e p =
 pub room-for : {n k answers rounds : ℕ} → n ≡ k → (k ≤ answers) × (k ≤ rounds) → (n ≤ answers) × (n ≤ rounds)
 room-for e room = (omega (arith, room .0), omega (arith, room .1))
 
--- a table that the columns for 32 tasks hold has no more
-pub few-tasks : {span : ℕ} {bytes lent words : List ℕ} {rows : RowColumn → List ℕ} → TableHeld span bytes (recordColumns 32 lent words) rows → taskCount bytes ≤ 32
-few-tasks {span} {bytes} {lent} held = omega (arith, held .ofRecords priorityColumn .long, length-take 32 lent)
-
 -- the priorities, in the bytes that they stand in front of
-pub ranks-held : {bytes lent words : List ℕ} → Lent bytes 32 lent words → {rows : RowColumn → List ℕ} →
-    {span : ℕ} → TableHeld span bytes (recordColumns 32 lent words) rows → Ranks bytes lent
-ranks-held {bytes} {lent} room held =
-    let column = held .ofRecords priorityColumn in
-    let few = few-tasks held in
+pub ranks-held : {bytes : List ℕ} {room : ℕ} {lent words : List ℕ} → Lent bytes room lent words → {rows : RowColumn → List ℕ} →
+    {span : ℕ} → TableHeld span bytes (recordColumns room lent words) rows → Ranks bytes lent
+ranks-held {room = room} {lent = lent} spaces held =
     record {
-      behind = omega (arith, few, room .bytesLong);
-      read = λ k h. sym (getD-take 32 lent k 0 (omega arith)) ∙ column .read k h;
+      behind = omega (arith, spaces .tasksFit, spaces .bytesLong);
+      read = λ k h. sym (getD-take room lent k 0 (omega (arith, spaces .tasksFit))) ∙ held .ofRecords priorityColumn .read k h;
     }
 
--- a slice of zeros that has a word for each task
-pub zeros-lent : {span : ℕ} {bytes lent words : List ℕ} {rows : RowColumn → List ℕ} → TableHeld span bytes (recordColumns 32 lent words) rows →
-    Zeros (replicate 32 0) (taskCount bytes)
-zeros-lent held =
-    let few = few-tasks held in
+-- a slice of zeros that has a word for each of n tasks
+pub zeros-lent : {n : ℕ} (room : ℕ) → n ≤ room → Zeros (replicate room 0) n
+zeros-lent room few =
     record {
-      long = omega (arith, few, length-replicate {A = ℕ} 32 0);
-      each = λ i h. getD-replicate {A = ℕ} 32 i 0 0 (omega (arith, few));
+      long = omega (arith, few, length-replicate {A = ℕ} room 0);
+      each = λ i h. getD-replicate {A = ℕ} room i 0 0 (omega (arith, few));
     }
+
+-- columns of zeros
+pub columns-lent : {table : List ℕ} (room : ℕ) → taskCount table ≤ room → {bytes words : ℕ} → bytes ≡ room + 128 → words ≡ 5 * room + 64 →
+    Lent table room (replicate bytes 0) (replicate words 0)
+columns-lent room few {bytes} {words} b w =
+    record { tasksFit = few; bytesLong = length-replicate {A = ℕ} bytes 0 ∙ b; wordsLong = length-replicate {A = ℕ} words 0 ∙ w }
 
 module _ {span : ℕ} (bytes : List ℕ) (records : RecordColumn → List ℕ) (rows : RowColumn → List ℕ) (held : TableHeld span bytes records rows)
     (ranks : List ℕ) (ranksHeld : Ranks bytes ranks) (n : ℕ) (tasksCounted : n ≡ taskCount bytes) where

@@ -5,7 +5,9 @@ ghost use lib.Dec.{leb};
 ghost use lib.ListN.{length};
 ghost use Rattle.model.specs.Choice.{both};
 ghost use Rattle.model.specs.Lists.{filled};
+ghost use Rattle.tables.specs.declared.Check.the-variants.{Clean};
 ghost use Rattle.tables.specs.Layout.{taskCount, tableOf};
+ghost use Rattle.tables.specs.Checks.{headCheck};
 ghost use Rattle.reading.specs.Columns.{recordColumns, rowColumns, Lent, TableHeld};
 ghost use Rattle.blocking.specs.Ceilings.{blockingOf};
 ghost use Rattle.blocking.specs.Sweep.{Zeros};
@@ -16,6 +18,14 @@ ghost use Rattle.equation.specs.declared.Start.the-variants.{EveryCost};
 pub use answering::Verdict;
 use answering::answer_all;
 pub use equation::Start;
+use reading::LARGE_BYTES;
+use reading::LARGE_ROOM;
+use reading::LARGE_WORDS;
+use reading::ROW_ROOM;
+use reading::SMALL_BYTES;
+use reading::SMALL_ROOM;
+use reading::SMALL_WORDS;
+use reading::is_large;
 use tables::Check;
 use tables::ONE_PERIOD;
 use tables::ROW_COUNT_AT;
@@ -66,22 +76,101 @@ pub fn analyse(table: &[u8], answers: &mut [u32], rounds: &mut [u32]) -> Verdict
 pub fn analyse_from(start: Start, table: &[u8], answers: &mut [u32], rounds: &mut [u32]) -> Verdict
     ensures { λ r. ⌜ Outcome start (lending (now (table .entry)) (now (answers .entry)) (now (rounds .entry))) (leaving r (now (answers .exit)) (now (rounds .exit))) ⌝ }
 {
-    // columns for 32 tasks and 64 rows, the most that any version has: 32 + 2 * 64 bytes and 5 * 32 + 64 words
-    let mut bytes = [0u8; 160];
-    let mut words = [0u32; 224];
-    let found = reading::read(table, ONE_PERIOD, 32, &mut bytes, &mut words);
+    let head = tables::head::check(table);
+    if let Check::Refused(refusal) = head {
+        return Verdict::Refused(refusal);
+    }
+    if is_large(table) {
+        return analyse_large(start, table, answers, rounds);
+    }
+    analyse_small(start, table, answers, rounds)
+}
+
+// Analyses a table with a right head, of at most 32 tasks: the room that versions 1 and 2 need is all that they are given.
+fn analyse_small(start: Start, table: &[u8], answers: &mut [u32], rounds: &mut [u32]) -> Verdict
+    requires { ⌜ (headCheck (now table) ≡ Clean) × (taskCount (now table) ≤ 32) ⌝ }
+    ensures { λ r. ⌜ Outcome start (lending (now (table .entry)) (now (answers .entry)) (now (rounds .entry))) (leaving r (now (answers .exit)) (now (rounds .exit))) ⌝ }
+{
+    let mut bytes = [0u8; SMALL_BYTES];
+    let mut words = [0u32; SMALL_WORDS];
+    // the blocking of each task; a mark for each, and one more
+    let mut held = [0u32; SMALL_ROOM];
+    let mut marks = [0u32; SMALL_ROOM + 1];
+    analyse_in(
+        start,
+        table,
+        SMALL_ROOM,
+        &mut bytes,
+        &mut words,
+        &mut held,
+        &mut marks,
+        answers,
+        rounds,
+    )
+}
+
+// The same for the 200 tasks that version 3 may have.
+fn analyse_large(start: Start, table: &[u8], answers: &mut [u32], rounds: &mut [u32]) -> Verdict
+    requires { ⌜ (headCheck (now table) ≡ Clean) × (taskCount (now table) ≤ 200) ⌝ }
+    ensures { λ r. ⌜ Outcome start (lending (now (table .entry)) (now (answers .entry)) (now (rounds .entry))) (leaving r (now (answers .exit)) (now (rounds .exit))) ⌝ }
+{
+    let mut bytes = [0u8; LARGE_BYTES];
+    let mut words = [0u32; LARGE_WORDS];
+    let mut held = [0u32; LARGE_ROOM];
+    let mut marks = [0u32; LARGE_ROOM + 1];
+    analyse_in(
+        start,
+        table,
+        LARGE_ROOM,
+        &mut bytes,
+        &mut words,
+        &mut held,
+        &mut marks,
+        answers,
+        rounds,
+    )
+}
+
+// Analyses a table with a right head in columns for `room` tasks, a zero for the blocking of each task, and marks.
+fn analyse_in(
+    start: Start,
+    table: &[u8],
+    room: usize,
+    bytes: &mut [u8],
+    words: &mut [u32],
+    held: &mut [u32],
+    marks: &mut [u32],
+    answers: &mut [u32],
+    rounds: &mut [u32],
+) -> Verdict
+    requires { ⌜ headCheck (now table) ≡ Clean ⌝ }
+    requires { ⌜ Lent (now table) room (now bytes) (now words) ⌝ }
+    requires { ⌜ Zeros (now held) (taskCount (now table)) × (taskCount (now table) < length (now marks)) ⌝ }
+    ensures { λ r. ⌜ Outcome start (lending (now (table .entry)) (now (answers .entry)) (now (rounds .entry))) (leaving r (now (answers .exit)) (now (rounds .exit))) ⌝ }
+{
+    let found = reading::read(table, ONE_PERIOD, room, bytes, words);
     if let Check::Refused(refusal) = found {
         return Verdict::Refused(refusal);
     }
     let n = count(table[TASK_COUNT_AT]);
-    if !room(n, answers.len(), rounds.len()) {
+    if !has_room(n, answers.len(), rounds.len()) {
         return Verdict::Refused(Refusal::NoRoom);
     }
-    answer(start, table, &bytes, &words, answers, rounds)
+    answer(
+        start,
+        table,
+        room,
+        bytes,
+        words,
+        held,
+        marks,
+        answers,
+        rounds,
+    )
 }
 
 // Is there a word for each of n tasks in both slices?
-pub fn room(n: usize, answers: usize, rounds: usize) -> bool
+pub fn has_room(n: usize, answers: usize, rounds: usize) -> bool
     ensures { λ r. ⌜ r ≡ both (leb n answers) (leb n rounds) ⌝ }
 {
     if answers < n {
@@ -91,19 +180,19 @@ pub fn room(n: usize, answers: usize, rounds: usize) -> bool
 }
 
 // B of each task of a table that the columns hold, however many periods its deadlines may span, in a slice that has a zero for each.
-pub fn find_blocking(table: &[u8], bytes: &[u8], words: &[u32], held: &mut [u32])
-    requires { ⌜ Lent (now table) 32 (now bytes) (now words) ⌝ }
-    requires { ⌜ ((span : ℕ) × TableHeld span (now table) (recordColumns 32 (now bytes) (now words)) (rowColumns 32 (now bytes) (now words))) ⌝ }
+pub fn find_blocking(table: &[u8], room: usize, bytes: &[u8], words: &[u32], held: &mut [u32])
+    requires { ⌜ Lent (now table) room (now bytes) (now words) ⌝ }
+    requires { ⌜ ((span : ℕ) × TableHeld span (now table) (recordColumns room (now bytes) (now words)) (rowColumns room (now bytes) (now words))) ⌝ }
     requires { ⌜ Zeros (now held) (taskCount (now table)) ⌝ }
     ensures { λ _. ⌜ now (held .exit) ≡ filled (blockingOf (tableOf (now (table .entry)))) (taskCount (now (table .entry))) (now (held .entry)) ⌝ }
 {
     let n = count(table[TASK_COUNT_AT]);
     let m = count(table[ROW_COUNT_AT]);
     // the priorities are the first bytes
-    let places = &bytes[32..96];
-    let semaphores = &bytes[96..160];
+    let places = &bytes[room..room + ROW_ROOM];
+    let semaphores = &bytes[room + ROW_ROOM..room + 2 * ROW_ROOM];
     // of the words the longest sections are the last
-    let longest = &words[160..224];
+    let longest = &words[5 * room..5 * room + ROW_ROOM];
     blocking::blocking(bytes, places, semaphores, longest, n, m, held);
 }
 
@@ -111,35 +200,36 @@ pub fn find_blocking(table: &[u8], bytes: &[u8], words: &[u32], held: &mut [u32]
 fn answer(
     start: Start,
     table: &[u8],
+    room: usize,
     bytes: &[u8],
     words: &[u32],
+    held: &mut [u32],
+    marks: &mut [u32],
     answers: &mut [u32],
     rounds: &mut [u32],
 ) -> Verdict
-    requires { ⌜ Lent (now table) 32 (now bytes) (now words) ⌝ }
+    requires { ⌜ Lent (now table) room (now bytes) (now words) ⌝ }
+    requires { ⌜ Zeros (now held) (taskCount (now table)) × (taskCount (now table) < length (now marks)) ⌝ }
     requires { ⌜ (taskCount (now table) ≤ length (now answers)) × (taskCount (now table) ≤ length (now rounds)) ⌝ }
-    requires { ⌜ TableHeld 1 (now table) (recordColumns 32 (now bytes) (now words)) (rowColumns 32 (now bytes) (now words)) ⌝ }
+    requires { ⌜ TableHeld 1 (now table) (recordColumns room (now bytes) (now words)) (rowColumns room (now bytes) (now words)) ⌝ }
     ensures { λ r. ⌜ Outcome start (lending (now (table .entry)) (now (answers .entry)) (now (rounds .entry))) (leaving r (now (answers .exit)) (now (rounds .exit))) ⌝ }
 {
     let n = count(table[TASK_COUNT_AT]);
-    let mut held = [0u32; 32];
-    find_blocking(table, bytes, words, &mut held);
-    // a mark for each of 32 tasks, and one more
-    let mut marks = [0u32; 33];
+    find_blocking(table, room, bytes, words, held);
     // of the words: periods, costs, deadlines, spreads, latest delays
     answer_all(
         start,
         bytes,
-        &words[0..32],
-        &words[32..64],
-        &words[64..96],
-        &words[96..128],
-        &words[128..160],
+        &words[0..room],
+        &words[room..2 * room],
+        &words[2 * room..3 * room],
+        &words[3 * room..4 * room],
+        &words[4 * room..5 * room],
         n,
-        &held,
+        held,
         answers,
         rounds,
-        &mut marks,
+        marks,
     )
 }
 

@@ -17,6 +17,12 @@ use Rattle.tables.specs.Refusals.{firstIn, orElse, unless}
 use Rattle.tables.specs.Checks.{headCheck, bodyCheck, readCheck, roomCheck, tableCheckSpanning}
 use Rattle.tables.proofs.FieldLaws.{never-refused, first-clean}
 
+-- a check that is refused decides
+decides : (check later : Check) (r : Refusal) → Refused r ≡ check → Refused r ≡ orElse check later
+unfolding orElse
+decides Clean later r e = absurd (never-refused (sym e))
+decides (Refused s) later r e = e
+
 -- the first of two checks that is refused is refused whatever is checked behind them
 two-decide : (first second later : Check) (r : Refusal) → Refused r ≡ orElse first (orElse second Clean) →
     orElse first (orElse second later) ≡ Refused r
@@ -31,6 +37,11 @@ module _ (span : ℕ) (bytes : List ℕ) where
   read-clean e =
       let a = first-clean (headCheck bytes) _ e in
       (a .0, first-clean (bodyCheck span bytes) _ (a .1) .0)
+
+  -- a head that is refused is refused whatever stands behind it
+  pub head-decides : (r : Refusal) → Refused r ≡ headCheck bytes → Refused r ≡ readCheck span bytes
+  unfolding readCheck firstIn
+  head-decides r e = decides (headCheck bytes) _ r e
 
   module _ (answers rounds : ℕ) where
     pub read-decides : (r : Refusal) → Refused r ≡ readCheck span bytes → tableCheckSpanning span bytes answers rounds ≡ Refused r
