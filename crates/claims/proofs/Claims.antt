@@ -97,11 +97,11 @@ module _ (bytes : List ℕ) where
   clean-right : readCheck 1 bytes ≡ check.Clean → TableRight bytes
   clean-right e = table-right 1 bytes (taskCount bytes) (taskCount bytes) (with-room ∙ e) .0
 
-  few-right : TableRight bytes → taskCount bytes ≤ 32
+  few-right : TableRight bytes → taskCount bytes ≤ 200
   few-right right = omega (arith, right .head .counts taskCountField .high, layout-sound bytes (right .head .version) .few)
 
-  -- what is read and not refused has at most 32 tasks
-  pub few-tasks : readCheck 1 bytes ≡ check.Clean → taskCount bytes ≤ 32
+  -- what is read and not refused has at most 200 tasks
+  pub few-tasks : readCheck 1 bytes ≡ check.Clean → taskCount bytes ≤ 200
   few-tasks e = few-right (clean-right e)
 
 module _ (bytes claims : List ℕ) where

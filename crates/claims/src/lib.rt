@@ -3,8 +3,11 @@ ghost use mathlib.Core.Path.{_≡_};
 ghost use Prim.Native.Nat.{_-_, _≤_, _<_};
 ghost use lib.ListN.{length};
 ghost use Rattle.model.specs.Lists.{sumOf};
+ghost use Rattle.tables.specs.declared.Check.the-variants.{Clean};
 ghost use Rattle.tables.specs.Layout.{taskCount};
+ghost use Rattle.tables.specs.Checks.{headCheck};
 ghost use Rattle.reading.specs.Columns.{recordColumns, rowColumns, Lent, TableHeld};
+ghost use Rattle.blocking.specs.Sweep.{Zeros};
 ghost use Rattle.equation.specs.Laws.{costOf};
 ghost use Rattle.equation.specs.Slices.{loads, LoadsFit};
 ghost use Rattle.answering.specs.Slices.{decoded, DecodedFits};
@@ -16,6 +19,13 @@ use answering::group_of;
 use equation::demand;
 use model::Place;
 use model::Ticks;
+use reading::LARGE_BYTES;
+use reading::LARGE_ROOM;
+use reading::LARGE_WORDS;
+use reading::SMALL_BYTES;
+use reading::SMALL_ROOM;
+use reading::SMALL_WORDS;
+use reading::is_large;
 use response::find_blocking;
 use tables::Check;
 use tables::ONE_PERIOD;
@@ -38,10 +48,53 @@ pub enum Claimed {
 pub fn check_claims(table: &[u8], claims: &[u32]) -> Claimed
     ensures { λ r. ⌜ Checked (now (table .entry)) (now (claims .entry)) r ⌝ }
 {
-    // columns for 32 tasks and 64 rows, the most that any version has: 32 + 2 * 64 bytes and 5 * 32 + 64 words
-    let mut bytes = [0u8; 160];
-    let mut words = [0u32; 224];
-    let found = reading::read(table, ONE_PERIOD, 32, &mut bytes, &mut words);
+    let head = tables::head::check(table);
+    if let Check::Refused(refusal) = head {
+        return Claimed::Refused(refusal);
+    }
+    if is_large(table) {
+        return check_large(table, claims);
+    }
+    check_small(table, claims)
+}
+
+// Checks the claims for a table with a right head, of at most 32 tasks: the room that versions 1 and 2 need is all that they are given.
+fn check_small(table: &[u8], claims: &[u32]) -> Claimed
+    requires { ⌜ (headCheck (now table) ≡ Clean) × (taskCount (now table) ≤ 32) ⌝ }
+    ensures { λ r. ⌜ Checked (now (table .entry)) (now (claims .entry)) r ⌝ }
+{
+    let mut bytes = [0u8; SMALL_BYTES];
+    let mut words = [0u32; SMALL_WORDS];
+    // the blocking of each task
+    let mut held = [0u32; SMALL_ROOM];
+    check_in(table, SMALL_ROOM, &mut bytes, &mut words, &mut held, claims)
+}
+
+// The same for the 200 tasks that version 3 may have.
+fn check_large(table: &[u8], claims: &[u32]) -> Claimed
+    requires { ⌜ (headCheck (now table) ≡ Clean) × (taskCount (now table) ≤ 200) ⌝ }
+    ensures { λ r. ⌜ Checked (now (table .entry)) (now (claims .entry)) r ⌝ }
+{
+    let mut bytes = [0u8; LARGE_BYTES];
+    let mut words = [0u32; LARGE_WORDS];
+    let mut held = [0u32; LARGE_ROOM];
+    check_in(table, LARGE_ROOM, &mut bytes, &mut words, &mut held, claims)
+}
+
+// Checks the claims for a table with a right head, in columns for `room` tasks and a zero for the blocking of each task.
+fn check_in(
+    table: &[u8],
+    room: usize,
+    bytes: &mut [u8],
+    words: &mut [u32],
+    held: &mut [u32],
+    claims: &[u32],
+) -> Claimed
+    requires { ⌜ headCheck (now table) ≡ Clean ⌝ }
+    requires { ⌜ Lent (now table) room (now bytes) (now words) × Zeros (now held) (taskCount (now table)) ⌝ }
+    ensures { λ r. ⌜ Checked (now (table .entry)) (now (claims .entry)) r ⌝ }
+{
+    let found = reading::read(table, ONE_PERIOD, room, bytes, words);
     if let Check::Refused(refusal) = found {
         return Claimed::Refused(refusal);
     }
@@ -49,29 +102,35 @@ pub fn check_claims(table: &[u8], claims: &[u32]) -> Claimed
     if claims.len() != n {
         return Claimed::WrongCount;
     }
-    check_table(table, &bytes, &words, claims)
+    check_table(table, room, bytes, words, held, claims)
 }
 
 // Checks a claim for each task of a table that the columns hold. The blocking of all tasks is found first.
-fn check_table(table: &[u8], bytes: &[u8], words: &[u32], claims: &[u32]) -> Claimed
-    requires { ⌜ Lent (now table) 32 (now bytes) (now words) ⌝ }
+fn check_table(
+    table: &[u8],
+    room: usize,
+    bytes: &[u8],
+    words: &[u32],
+    held: &mut [u32],
+    claims: &[u32],
+) -> Claimed
+    requires { ⌜ Lent (now table) room (now bytes) (now words) × Zeros (now held) (taskCount (now table)) ⌝ }
     requires { ⌜ length (now claims) ≡ taskCount (now table) ⌝ }
-    requires { ⌜ TableHeld 1 (now table) (recordColumns 32 (now bytes) (now words)) (rowColumns 32 (now bytes) (now words)) ⌝ }
+    requires { ⌜ TableHeld 1 (now table) (recordColumns room (now bytes) (now words)) (rowColumns room (now bytes) (now words)) ⌝ }
     ensures { λ r. ⌜ Checked (now (table .entry)) (now (claims .entry)) r ⌝ }
 {
     let n = count(table[TASK_COUNT_AT]);
-    let mut held = [0u32; 32];
-    find_blocking(table, bytes, words, &mut held);
+    find_blocking(table, room, bytes, words, held);
     // of the words: periods, costs, deadlines, spreads, latest delays
     check_all(
         bytes,
-        &words[0..32],
-        &words[32..64],
-        &words[64..96],
-        &words[96..128],
-        &words[128..160],
+        &words[0..room],
+        &words[room..2 * room],
+        &words[2 * room..3 * room],
+        &words[3 * room..4 * room],
+        &words[4 * room..5 * room],
         n,
-        &held,
+        held,
         claims,
     )
 }
