@@ -4,8 +4,11 @@ ghost use mathlib.Core.Bool.{true};
 ghost use Prim.Native.Nat.{_≤_, _<_};
 ghost use lib.ListN.{length};
 ghost use Rattle.model.specs.Choice.{pick};
+ghost use Rattle.tables.specs.declared.Check.the-variants.{Clean};
 ghost use Rattle.tables.specs.Layout.{taskCount};
+ghost use Rattle.tables.specs.Checks.{headCheck};
 ghost use Rattle.reading.specs.Columns.{recordColumns, rowColumns, Lent, TableHeld};
+ghost use Rattle.blocking.specs.Sweep.{Zeros};
 ghost use Rattle.solver.specs.Marks.{PeriodsHigh};
 ghost use Rattle.answering.specs.Slices.{decoded, DecodedFits, slice};
 ghost use Rattle.overlaps.specs.Outcome.{isSchedulable, isCalm, saidBy, lending, leaving, PastOutcome};
@@ -16,9 +19,16 @@ use answering::group_of;
 use model::OPEN;
 use model::Place;
 use model::Ticks;
+use reading::LARGE_BYTES;
+use reading::LARGE_ROOM;
+use reading::LARGE_WORDS;
+use reading::SMALL_BYTES;
+use reading::SMALL_ROOM;
+use reading::SMALL_WORDS;
 use reading::any_delay;
+use reading::is_large;
 use response::find_blocking;
-use response::room;
+use response::has_room;
 use solver::least_first;
 use tables::Check;
 use tables::FOUR_PERIODS;
@@ -47,48 +57,121 @@ pub enum Found {
 pub fn analyse_past_period(table: &[u8], answers: &mut [u32], tried: &mut [u32]) -> Found
     ensures { λ r. ⌜ PastOutcome (lending (now (table .entry)) (now (answers .entry)) (now (tried .entry))) (leaving r (now (answers .exit)) (now (tried .exit))) ⌝ }
 {
-    // columns for 32 tasks and 64 rows, the most that any version has: 32 + 2 * 64 bytes and 5 * 32 + 64 words
-    let mut bytes = [0u8; 160];
-    let mut words = [0u32; 224];
-    let checked = reading::read(table, FOUR_PERIODS, 32, &mut bytes, &mut words);
+    let head = tables::head::check(table);
+    if let Check::Refused(refusal) = head {
+        return Found::Refused(refusal);
+    }
+    if is_large(table) {
+        return analyse_large(table, answers, tried);
+    }
+    analyse_small(table, answers, tried)
+}
+
+// Analyses a table with a right head, of at most 32 tasks: the room that versions 1 and 2 need is all that they are given.
+fn analyse_small(table: &[u8], answers: &mut [u32], tried: &mut [u32]) -> Found
+    requires { ⌜ (headCheck (now table) ≡ Clean) × (taskCount (now table) ≤ 32) ⌝ }
+    ensures { λ r. ⌜ PastOutcome (lending (now (table .entry)) (now (answers .entry)) (now (tried .entry))) (leaving r (now (answers .exit)) (now (tried .exit))) ⌝ }
+{
+    let mut bytes = [0u8; SMALL_BYTES];
+    let mut words = [0u32; SMALL_WORDS];
+    // the blocking of each task; a mark for each, and one more
+    let mut held = [0u32; SMALL_ROOM];
+    let mut marks = [0u32; SMALL_ROOM + 1];
+    analyse_in(
+        table,
+        SMALL_ROOM,
+        &mut bytes,
+        &mut words,
+        &mut held,
+        &mut marks,
+        answers,
+        tried,
+    )
+}
+
+// The same for the 200 tasks that version 3 may have.
+fn analyse_large(table: &[u8], answers: &mut [u32], tried: &mut [u32]) -> Found
+    requires { ⌜ (headCheck (now table) ≡ Clean) × (taskCount (now table) ≤ 200) ⌝ }
+    ensures { λ r. ⌜ PastOutcome (lending (now (table .entry)) (now (answers .entry)) (now (tried .entry))) (leaving r (now (answers .exit)) (now (tried .exit))) ⌝ }
+{
+    let mut bytes = [0u8; LARGE_BYTES];
+    let mut words = [0u32; LARGE_WORDS];
+    let mut held = [0u32; LARGE_ROOM];
+    let mut marks = [0u32; LARGE_ROOM + 1];
+    analyse_in(
+        table,
+        LARGE_ROOM,
+        &mut bytes,
+        &mut words,
+        &mut held,
+        &mut marks,
+        answers,
+        tried,
+    )
+}
+
+// Analyses a table with a right head in columns for `room` tasks, a zero for the blocking of each task, and marks.
+fn analyse_in(
+    table: &[u8],
+    room: usize,
+    bytes: &mut [u8],
+    words: &mut [u32],
+    held: &mut [u32],
+    marks: &mut [u32],
+    answers: &mut [u32],
+    tried: &mut [u32],
+) -> Found
+    requires { ⌜ headCheck (now table) ≡ Clean ⌝ }
+    requires { ⌜ Lent (now table) room (now bytes) (now words) ⌝ }
+    requires { ⌜ Zeros (now held) (taskCount (now table)) × (taskCount (now table) < length (now marks)) ⌝ }
+    ensures { λ r. ⌜ PastOutcome (lending (now (table .entry)) (now (answers .entry)) (now (tried .entry))) (leaving r (now (answers .exit)) (now (tried .exit))) ⌝ }
+{
+    let checked = reading::read(table, FOUR_PERIODS, room, bytes, words);
     if let Check::Refused(refusal) = checked {
         return Found::Refused(refusal);
     }
     let n = count(table[TASK_COUNT_AT]);
-    if !room(n, answers.len(), tried.len()) {
+    if !has_room(n, answers.len(), tried.len()) {
         return Found::Refused(Refusal::NoRoom);
     }
-    if any_delay(&words[128..160], n) {
+    if any_delay(&words[4 * room..5 * room], n) {
         return Found::Delayed;
     }
-    find(table, &bytes, &words, answers, tried)
+    find(table, room, bytes, words, held, marks, answers, tried)
 }
 
 // Finds the words of a table that the columns hold and that has no delay, in slices that have room. The blocking of all tasks is found first.
-fn find(table: &[u8], bytes: &[u8], words: &[u32], answers: &mut [u32], tried: &mut [u32]) -> Found
-    requires { ⌜ Lent (now table) 32 (now bytes) (now words) ⌝ }
+fn find(
+    table: &[u8],
+    room: usize,
+    bytes: &[u8],
+    words: &[u32],
+    held: &mut [u32],
+    marks: &mut [u32],
+    answers: &mut [u32],
+    tried: &mut [u32],
+) -> Found
+    requires { ⌜ Lent (now table) room (now bytes) (now words) ⌝ }
+    requires { ⌜ Zeros (now held) (taskCount (now table)) × (taskCount (now table) < length (now marks)) ⌝ }
     requires { ⌜ (taskCount (now table) ≤ length (now answers)) × (taskCount (now table) ≤ length (now tried)) ⌝ }
-    requires { ⌜ TableHeld 4 (now table) (recordColumns 32 (now bytes) (now words)) (rowColumns 32 (now bytes) (now words)) × (isCalm (now table) ≡ true) ⌝ }
+    requires { ⌜ TableHeld 4 (now table) (recordColumns room (now bytes) (now words)) (rowColumns room (now bytes) (now words)) × (isCalm (now table) ≡ true) ⌝ }
     ensures { λ r. ⌜ PastOutcome (lending (now (table .entry)) (now (answers .entry)) (now (tried .entry))) (leaving r (now (answers .exit)) (now (tried .exit))) ⌝ }
 {
     let n = count(table[TASK_COUNT_AT]);
-    let mut held = [0u32; 32];
-    find_blocking(table, bytes, words, &mut held);
-    // a mark for each of 32 tasks, and one more
-    let mut marks = [0u32; 33];
+    find_blocking(table, room, bytes, words, held);
     // of the words: periods, costs, deadlines, spreads, latest delays
     find_all(
         bytes,
-        &words[0..32],
-        &words[32..64],
-        &words[64..96],
-        &words[96..128],
-        &words[128..160],
+        &words[0..room],
+        &words[room..2 * room],
+        &words[2 * room..3 * room],
+        &words[3 * room..4 * room],
+        &words[4 * room..5 * room],
         n,
-        &held,
+        held,
         answers,
         tried,
-        &mut marks,
+        marks,
     )
 }
 
