@@ -7,5 +7,6 @@ pub mod OnlyWritten
 pub mod Starts
 pub mod Ties
 pub mod VersionOne
+pub mod Versions
 pub mod WorkedTables
 pub mod WorkedBytes

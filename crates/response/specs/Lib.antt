@@ -6,4 +6,5 @@ pub mod Statements
 pub mod Starts
 pub mod Ties
 pub mod VersionOne
+pub mod Versions
 pub mod Worked

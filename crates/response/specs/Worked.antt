@@ -138,13 +138,13 @@ EachRight (w ∷ ws) = WorkedRight w × EachRight ws
 unfoldable pub WorkedTablesRight : Type 0
 WorkedTablesRight = EachRight workedTables
 
--- J alone is enough where no task has an earliest delay, so that both versions can hold the table; else version 2 can
+-- J alone is enough where no task has an earliest delay, so that every version can hold the table; else versions 2 and 3 can
 abbrev pub noEarliest : List Task → Bool
 noEarliest [] = true
 noEarliest (t ∷ ts) = both (eqb (t .earliest) 0) (noEarliest ts)
 
 abbrev pub versionsOf : Worked → List ℕ
-versionsOf w = pick (noEarliest (w .tasks)) (1 ∷ 2 ∷ []) (2 ∷ [])
+versionsOf w = pick (noEarliest (w .tasks)) (1 ∷ 2 ∷ 3 ∷ []) (2 ∷ 3 ∷ [])
 
 -- The table's bytes in a version are bytes, are accepted and read back as it, and what is left for them, from each start, is what is
 -- said.

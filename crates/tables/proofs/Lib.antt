@@ -1,4 +1,5 @@
 pub mod LayoutLaws
+pub mod VersionLaws
 pub mod FieldLaws
 pub mod FaultLaws
 pub mod MeaningLaws

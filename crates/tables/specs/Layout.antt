@@ -1,5 +1,5 @@
--- House form, versions 1 and 2: which bytes hold which field, and the table that the bytes mean (SPECIFICATION 2;
--- document 01, "The table's bytes"; document 02, L4).
+-- House form, versions 1 to 3: which bytes hold which field, and the table that the bytes mean (SPECIFICATION 2;
+-- document 01, "The table's bytes"; document 02, L4 and L9).
 -- Assumes nothing.
 use Prim.Native.Nat.{ℕ, _+_, _*_, _≤_}
 use mathlib.Core.Bool.{true, false}

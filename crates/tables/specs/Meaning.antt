@@ -1,4 +1,4 @@
--- The rules of the table's bytes (SPECIFICATION 2; document 01, "The table's bytes", and document 02, L4 and L6), without any test,
+-- The rules of the table's bytes (SPECIFICATION 2; document 01, "The table's bytes", and document 02, L4, L6 and L9), without any test,
 -- field by field.
 -- Assumes nothing.
 use Prim.Native.Nat.{ℕ, suc, _≤_, _<_}
@@ -15,7 +15,7 @@ use Rattle.tables.specs.Layout.{versionOf, layoutOf, statedLength, taskC
 abbrev pub LongEnough : List ℕ → Type 0
 LongEnough bytes = 5 ≤ length bytes
 
--- 2: "byte 0 isn't 1", nor 2 (SPECIFICATION 2.2; document 02, L4)
+-- 2: "byte 0 isn't 1", nor 2 or 3 (SPECIFICATION 2.2; document 02, L4 and L9)
 abbrev pub Known : ℕ → Type 0
 Known version = (version ≡ 1) ⊎ ((version ≡ 2) ⊎ (version ≡ 3))
 
