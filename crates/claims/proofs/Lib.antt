@@ -2,3 +2,4 @@ pub mod ClaimLaws
 pub mod ColumnLaws
 pub mod Claims
 pub mod ExampleLaws
+pub mod Versions

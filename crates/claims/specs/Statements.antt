@@ -1,5 +1,5 @@
 -- What is claimed of the checker for the bytes of any table and any list of words (SPECIFICATION 13.7; document 02, L7), as named statements
--- about what `check_claims` answers (`Checked`, its contract). The proofs are in proofs/Claims.antt.
+-- about what `check_claims` answers (`Checked`, its contract). The proofs are in proofs/Claims.antt and Versions.antt.
 -- Assumes nothing.
 use Prim.Native.Nat.{ℕ, _+_, _≤_, _<_}
 use mathlib.Core.Path.{_≡_}
@@ -8,7 +8,7 @@ use mathlib.Core.List.{List}
 use lib.ListN.{length, take}
 use Rattle.model.specs.Lists.{wordOf}
 use Rattle.model.specs.Tables.{Table, taskOf, loadsOf}
-use Rattle.tables.specs.Layout.{taskCount, rowCount, tasksOf, tableOf}
+use Rattle.tables.specs.Layout.{versionOf, taskCount, rowCount, tasksOf, tableOf}
 use Rattle.tables.specs.Meaning.{TableRight, RoomFor}
 use Rattle.tables.specs.Deserved.{Deserved}
 use Rattle.equation.specs.Demand.{demand}
@@ -18,9 +18,10 @@ use Rattle.runs.specs.Statement.{NoneExceeds}
 use Rattle.answering.specs.declared.Verdict.the-variants.{Schedulable}
 use Rattle.response.specs.Analysis.{baseOf}
 use Rattle.response.specs.Outcome.{Call, Left, Outcome}
+use Rattle.response.specs.Versions.{asThree}
 use Rattle.claims.specs.declared.Claimed.{Claimed}
 use Rattle.claims.specs.declared.Claimed.the-variants.{Refused, WrongCount, Pass, Fails}
-use Rattle.claims.specs.Claims.{Checked}
+use Rattle.claims.specs.Claims.{claimedOf, Checked}
 
 -- "claim r passes if w = r minus the latest delay is at least 1, r is within the deadline, and demand at w is at most w", without any test
 pub record Passes (table : Table) (i r : ℕ) : Type 0 where
@@ -83,3 +84,9 @@ abbrev pub ClaimsInRuns : Type 0
 ClaimsInRuns =
     (bytes claims : List ℕ) → Checked bytes claims Pass → NoDelay (tasksOf bytes) → rowCount bytes ≡ 0 →
     (i : ℕ) → i < taskCount bytes → (1 ≤ wordOf claims i) × NoneExceeds (tasksOf bytes) i (wordOf claims i)
+
+-- "Version 3 has version 2's layout" (SPECIFICATION 13.9; document 02, L9): with at most 32 tasks the same bytes in either version, right
+-- or wrong, get the same answer for the same list.
+abbrev pub ClaimsInVersionThree : Type 0
+ClaimsInVersionThree =
+    (bytes claims : List ℕ) → versionOf bytes ≡ 2 → taskCount bytes ≤ 32 → claimedOf (asThree bytes) claims ≡ claimedOf bytes claims

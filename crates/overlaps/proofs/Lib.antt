@@ -7,3 +7,4 @@ pub mod ResultLaws
 pub mod Past
 pub mod Within
 pub mod ExampleLaws
+pub mod Versions

@@ -1,5 +1,6 @@
 -- What is claimed of the second analysis for the bytes of any table (SPECIFICATION 13.8; document 02, L8), as named statements about what
--- `analyse_past_period` answers and leaves (`PastOutcome`, its contract). The proofs are in proofs/Past.antt, EndLaws.antt and Within.antt.
+-- `analyse_past_period` answers and leaves (`PastOutcome`, its contract). The proofs are in proofs/Past.antt, EndLaws.antt, Within.antt
+-- and Versions.antt.
 -- Assumes nothing.
 use Prim.Native.Nat.{ℕ, _+_, _*_, _≤_, _<_}
 use mathlib.Core.Path.{_≡_}
@@ -8,7 +9,7 @@ use mathlib.Core.List.{List}
 use lib.ListN.{length}
 use Rattle.model.specs.Lists.{wordOf}
 use Rattle.model.specs.Tables.{openWord}
-use Rattle.tables.specs.Layout.{taskCount, tableOf, periodIn, deadlineIn, earliestIn, latestIn}
+use Rattle.tables.specs.Layout.{versionOf, taskCount, tableOf, periodIn, deadlineIn, earliestIn, latestIn}
 use Rattle.tables.specs.Meaning.{TableRightSpanning, RoomFor}
 use Rattle.tables.specs.Deserved.{DeservedSpanning}
 use Rattle.equation.specs.Laws.{IsSmallest}
@@ -16,10 +17,11 @@ use Rattle.equation.specs.declared.Start.{Start}
 use Rattle.answering.specs.declared.Verdict.{Verdict}
 use Rattle.answering.specs.declared.Verdict.the-variants as verdict
 use Rattle.response.specs.Outcome as first
+use Rattle.response.specs.Versions.{asThree}
 use Rattle.overlaps.specs.declared.Found.{Found}
 use Rattle.overlaps.specs.declared.Found.the-variants.{Refused, Delayed, Schedulable, Late, Open}
 use Rattle.overlaps.specs.Overlaps.{Studied, baseAt, limitAt, studiedOf}
-use Rattle.overlaps.specs.Outcome.{Call, Left, lending, PastOutcome}
+use Rattle.overlaps.specs.Outcome.{Call, Left, lending, foundOf, answersAfter, triedWordsAfter, PastOutcome}
 
 -- R(q) is r: r + qT is "the smallest w equal to B + (1 + q)C plus interference"
 abbrev pub Responds : Studied → ℕ → ℕ → Type 0
@@ -164,3 +166,13 @@ SameWithinPeriod =
     PastOutcome (lending (lent .bytes) (lent .answers) (lent .rounds)) result →
     ((i : ℕ) → i < taskCount (lent .bytes) → deadlineIn (lent .bytes) i ≤ periodIn (lent .bytes) i) → Calm (lent .bytes) →
     SameLeft (lending (lent .bytes) (lent .answers) (lent .rounds)) result other
+
+-- "Version 3 has version 2's layout" (SPECIFICATION 13.9; document 02, L9): with at most 32 tasks the same bytes in either version, right
+-- or wrong, get the same answer, a refusal with its place too, and the same words.
+pub record PastInVersionThree : Type 0 where
+  pub sameFound : (bytes : List ℕ) → versionOf bytes ≡ 2 → taskCount bytes ≤ 32 →
+      (answers tried : ℕ) → foundOf (asThree bytes) answers tried ≡ foundOf bytes answers tried
+  pub sameAnswers : (bytes : List ℕ) → versionOf bytes ≡ 2 → taskCount bytes ≤ 32 →
+      (answers tried : List ℕ) → answersAfter (asThree bytes) answers tried ≡ answersAfter bytes answers tried
+  pub sameTried : (bytes : List ℕ) → versionOf bytes ≡ 2 → taskCount bytes ≤ 32 →
+      (answers tried : List ℕ) → triedWordsAfter (asThree bytes) answers tried ≡ triedWordsAfter bytes answers tried
