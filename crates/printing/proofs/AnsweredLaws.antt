@@ -14,5 +14,5 @@ pub text-of-outcome : (start : Start) (bytes : List ℕ) (result : Left) → Out
 unfolding answerText
 text-of-outcome start bytes result o =
     ap (λ (v : Verdict). textOf bytes v (result .answers) (result .rounds)) (o .verdictIs)
-    ∙ ap (λ (a : List ℕ). textOf bytes (verdictOf bytes 32 32) a (result .rounds)) (o .answersAre)
-    ∙ ap (textOf bytes (verdictOf bytes 32 32) (answersAfter bytes zeros zeros)) (o .roundsAre)
+    ∙ ap (λ (a : List ℕ). textOf bytes (verdictOf bytes 200 200) a (result .rounds)) (o .answersAre)
+    ∙ ap (textOf bytes (verdictOf bytes 200 200) (answersAfter bytes zeros zeros)) (o .roundsAre)

@@ -66,13 +66,13 @@ deadline-shown bytes i =
       | inr p ↦ rw (p .0) (omega arith)
     ]
 
--- the lines `tasks 32` and, as the longest last one, `schedulable`; 32 tasks' lines; and the 54 digits of the places 0 to 31
+-- the lines `tasks 200` and, as the longest last one, `schedulable`; 200 tasks' lines; and the 490 digits of the places 0 to 199
 abbrev pub textRoom : List ℕ → ℕ → ℕ
-textRoom word width = 9 + 12 + 32 * lineRoom word width + 54
+textRoom word width = 10 + 12 + 200 * lineRoom word width + 490
 
 -- a text of a table within the rules, however many periods a deadline may span: the lines of its tasks, and a last line
 module _ (span : ℕ) (bytes : List ℕ) (right : TableRightSpanning span bytes) where
-  few-tasks : taskCount bytes ≤ 32
+  few-tasks : taskCount bytes ≤ 200
   few-tasks =
       omega (arith, right .head .counts taskCountField .high, layout-sound bytes (right .head .version) .few)
 
@@ -85,18 +85,18 @@ module _ (span : ℕ) (bytes : List ℕ) (right : TableRightSpanning span bytes)
   unfolding total decimalOf firstFrom
   text-long word answers counts last width small short =
       let n = taskCount bytes in
-      let places : total digitCount 32 ≡ 54 = refl in
+      let places : total digitCount 200 ≡ 490 = refl in
       omega (
         arith,
         places,
-        total-longer digitCount n 32 few-tasks,
+        total-longer digitCount n 200 few-tasks,
         length-append (tasksText word bytes answers counts) last,
         length-append (lineWithNumber (bytesOf "tasks ") n) (taskLines word bytes answers counts n),
         line-long (bytesOf "tasks ") n,
-        few-digits n 2 (omega arith) (omega (arith, few-tasks)),
+        few-digits n 3 (omega arith) (omega (arith, few-tasks)),
         lines-long word bytes answers counts width n small
             (λ i h. omega (arith, deadline-shown bytes i, deadline-small i h)),
-        mul-le-mul {n₁ = n} {m₁ = lineRoom word width} {n₂ = 32} {m₂ = lineRoom word width} few-tasks (omega arith),
+        mul-le-mul {n₁ = n} {m₁ = lineRoom word width} {n₂ = 200} {m₂ = lineRoom word width} few-tasks (omega arith),
       )
 
 -- no start is below the task's own cost
@@ -180,7 +180,7 @@ answer-text-long : (start : Start) (bytes : List ℕ) → length (answerText sta
 unfolding answerText
 answer-text-long start bytes =
     textFits start (lending bytes zeros zeros)
-    (leaving (verdictOf bytes 32 32) (answersAfter bytes zeros zeros) (roundsAfter start bytes zeros zeros))
+    (leaving (verdictOf bytes 200 200) (answersAfter bytes zeros zeros) (roundsAfter start bytes zeros zeros))
     (record { verdictIs = refl; answersAre = refl; roundsAre = refl })
 
 -- a text that has room at the beginning is whole

@@ -7,6 +7,7 @@ use Rattle.tables.specs.Layout.{layoutFor}
 use Rattle.tables.specs.Refusals.{unless, orElse, firstIn, fieldsCheck}
 use Rattle.tables.specs.Rules.{countTest, lengthsAgree, priorityFits, recordTest, rowAfter, rowTest}
 use Rattle.tables.specs.Checks.{countsCheck, recordCheck, rowCheck, headCheck, recordsCheck, rowsCheck, bodyCheck, roomCheck, tableCheckSpanning}
+use Rattle.encoding.specs.Bytes.{joined}
 use Rattle.equation.specs.Demand.{demand}
 use Rattle.equation.specs.Sequence.{term}
 use Rattle.blocking.specs.Ceilings.{ceiling, blockingOf}
@@ -17,5 +18,5 @@ use Rattle.printing.specs.Answered.{answerText}
 use Rattle.printing.specs.Samples.{samples, SamplesRight}
 
 pub samplesRight : SamplesRight
-unfolding tabulate gather sumOf largestOf firstFrom firstOf layoutFor unless orElse firstIn fieldsCheck countTest lengthsAgree priorityFits recordTest rowAfter rowTest countsCheck recordCheck rowCheck headCheck recordsCheck rowsCheck bodyCheck roomCheck tableCheckSpanning demand term ceiling blockingOf answerOf roundsOf verdictOf answersAfter roundsAfter decimalOf taskLines answerText samples
+unfolding tabulate gather sumOf largestOf firstFrom firstOf layoutFor unless orElse firstIn fieldsCheck countTest lengthsAgree priorityFits recordTest rowAfter rowTest countsCheck recordCheck rowCheck headCheck recordsCheck rowsCheck bodyCheck roomCheck tableCheckSpanning demand term ceiling blockingOf answerOf roundsOf verdictOf answersAfter roundsAfter joined decimalOf taskLines answerText samples
 samplesRight = refl

@@ -9,9 +9,9 @@ use Rattle.printing.specs.Text.{textOf}
 
 -- what each of both slices holds before the call: a word for every task of the longest table
 abbrev pub zeros : List ℕ
-zeros = replicate 32 0
+zeros = replicate 200 0
 
 -- what `analyse_from` answers and leaves, as text
 unfoldable pub answerText : Start → List ℕ → List ℕ
 answerText start bytes =
-    textOf bytes (verdictOf bytes 32 32) (answersAfter bytes zeros zeros) (roundsAfter start bytes zeros zeros)
+    textOf bytes (verdictOf bytes 200 200) (answersAfter bytes zeros zeros) (roundsAfter start bytes zeros zeros)

@@ -15,10 +15,10 @@ use Rattle.printing.specs.Appended.{Appended}
 use Rattle.printing.specs.Text.{textOf}
 use Rattle.printing.specs.Answered.{answerText}
 
--- The lines `tasks 32` and `schedulable` have 9 and 12 bytes. A task's line has 50 besides its place, since answer, deadline and rounds
--- are at most 1,000,000; and the places 0 to 31 have 54 digits.
+-- The lines `tasks 200` and `schedulable` have 10 and 12 bytes. A task's line has 50 besides its place, since answer, deadline and rounds
+-- are at most 1,000,000; and the places 0 to 199 have 490 digits.
 abbrev pub longest : ℕ
-longest = 1675
+longest = 10512
 
 -- Whatever the analysis says, from either start, of any bytes and in any slices, its text is no longer.
 abbrev pub TextFits : Type 0
@@ -26,16 +26,16 @@ TextFits =
     (start : Start) (lent : Call) (result : Left) → Outcome start lent result →
     length (textOf (lent .bytes) (result .verdict) (result .answers) (result .rounds)) ≤ longest
 
--- The digits alone allow no smaller number: here are 32 tasks (1000000, 1, 1000000), and the text says that each answers 1,000,000 after
--- 1,000,000 rounds. This is about the text, and not about which answers the analysis can give together.
+-- The digits alone allow no smaller number: here are 200 tasks (1000000, 1, 1000000), as version 3 allows, and the text says that each answers
+-- 1,000,000 after 1,000,000 rounds. This is about the text, and not about which answers the analysis can give together.
 abbrev pub millionTask : ℕ → Task
-millionTask i = record { priority = 32 - i; period = 1000000; cost = 1; deadline = 1000000; earliest = 0; latest = 0 }
+millionTask i = record { priority = 200 - i; period = 1000000; cost = 1; deadline = 1000000; earliest = 0; latest = 0 }
 
 abbrev pub millionTable : List ℕ
-millionTable = encode 1 (record { tasks = tabulate millionTask 32; rows = [] })
+millionTable = encode 3 (record { tasks = tabulate millionTask 200; rows = [] })
 
 abbrev pub LongestReached : Type 0
-LongestReached = length (textOf millionTable Schedulable (replicate 32 1000000) (replicate 32 1000000)) ≡ longest
+LongestReached = length (textOf millionTable Schedulable (replicate 200 1000000) (replicate 200 1000000)) ≡ longest
 
 -- The whole text stands at the buffer's beginning, it ends where it should, and the bytes behind it stay.
 pub record Whole (old text : List ℕ) (end : ℕ) (new : List ℕ) : Type 0 where

@@ -1,12 +1,16 @@
--- The sample texts, whole and to the letter, from the bytes of their tables, which are those of examples/
--- (crates/encoding/specs/Examples.antt): as rows of one list under one statement, which the checker computes (SPECIFICATION 10 and 12;
--- document 01, "Worked tables"). The proof is in proofs/SampleTexts.antt.
+-- The sample texts, whole and to the letter, from the bytes of their tables: those of examples/ (crates/encoding/specs/Examples.antt) and
+-- four more. They are rows of one list under one statement, which the checker computes (SPECIFICATION 10 and 12; document 01, "Worked
+-- tables"; document 02, L9). The proof is in proofs/SampleTexts.antt.
 -- Assumes nothing.
-use Prim.Native.Nat.{ℕ}
+use Prim.Native.Nat.{ℕ, _-_}
 use Prim.Native.String.{String}
 use mathlib.Core.Path.{_≡_}
 use mathlib.Core.List.{List, [], _∷_, _++_, map}
-use Rattle.encoding.specs.Examples.{fifth, late, sections, delays, groups, refused}
+use lib.ListN.{set}
+use Rattle.model.specs.Lists.{tabulate}
+use Rattle.model.specs.Tables.{Task}
+use Rattle.encoding.specs.Bytes.{joined, encode}
+use Rattle.encoding.specs.Examples.{task, fifth, late, sections, delays, groups, refused}
 use Rattle.equation.specs.declared.Start.{Start}
 use Rattle.equation.specs.declared.Start.the-variants.{EveryCost, OwnCost}
 use Rattle.printing.specs.Text.{bytesOf}
@@ -16,13 +20,41 @@ use Rattle.printing.specs.Answered.{answerText}
 abbrev pub longer : List ℕ
 longer = fifth ++ (0 ∷ [])
 
+-- "Version 3 has version 2's layout": the bytes of examples/delays.table under its number
+abbrev pub delaysThree : List ℕ
+delaysThree = set delays 0 3
+
+-- "n up to 200", and "Versions 1 and 2 keep their limit of 32": 33 tasks, whose costs are one tick more than the last one's deadline
+abbrev pub crowdTask : ℕ → Task
+crowdTask i = task (33 - i) 98 3 98 0 0
+
+abbrev pub crowd : (version : ℕ) → List ℕ
+crowd version = encode version (record { tasks = tabulate crowdTask 33; rows = [] })
+
+abbrev pub crowdLines : List String
+crowdLines =
+    "tasks 33\n"
+    ∷ "0 response 3 deadline 98 rounds 1\n" ∷ "1 response 6 deadline 98 rounds 1\n" ∷ "2 response 9 deadline 98 rounds 1\n"
+    ∷ "3 response 12 deadline 98 rounds 1\n" ∷ "4 response 15 deadline 98 rounds 1\n" ∷ "5 response 18 deadline 98 rounds 1\n"
+    ∷ "6 response 21 deadline 98 rounds 1\n" ∷ "7 response 24 deadline 98 rounds 1\n" ∷ "8 response 27 deadline 98 rounds 1\n"
+    ∷ "9 response 30 deadline 98 rounds 1\n" ∷ "10 response 33 deadline 98 rounds 1\n" ∷ "11 response 36 deadline 98 rounds 1\n"
+    ∷ "12 response 39 deadline 98 rounds 1\n" ∷ "13 response 42 deadline 98 rounds 1\n" ∷ "14 response 45 deadline 98 rounds 1\n"
+    ∷ "15 response 48 deadline 98 rounds 1\n" ∷ "16 response 51 deadline 98 rounds 1\n" ∷ "17 response 54 deadline 98 rounds 1\n"
+    ∷ "18 response 57 deadline 98 rounds 1\n" ∷ "19 response 60 deadline 98 rounds 1\n" ∷ "20 response 63 deadline 98 rounds 1\n"
+    ∷ "21 response 66 deadline 98 rounds 1\n" ∷ "22 response 69 deadline 98 rounds 1\n" ∷ "23 response 72 deadline 98 rounds 1\n"
+    ∷ "24 response 75 deadline 98 rounds 1\n" ∷ "25 response 78 deadline 98 rounds 1\n" ∷ "26 response 81 deadline 98 rounds 1\n"
+    ∷ "27 response 84 deadline 98 rounds 1\n" ∷ "28 response 87 deadline 98 rounds 1\n" ∷ "29 response 90 deadline 98 rounds 1\n"
+    ∷ "30 response 93 deadline 98 rounds 1\n" ∷ "31 response 96 deadline 98 rounds 1\n" ∷ "32 late deadline 98 rounds 1\n"
+    ∷ "late 32\n"
+    ∷ []
+
 pub record Sample : Type 0 where
   pub start : Start
   pub bytes : List ℕ
-  pub text : String
+  pub lines : List String
 
 abbrev pub sample : Start → List ℕ → String → Sample
-sample start bytes text = record { start = start; bytes = bytes; text = text }
+sample start bytes text = record { start = start; bytes = bytes; lines = text ∷ [] }
 
 -- Document 01's rounds are those from `OwnCost`; from `EveryCost` is what the program prints (SPECIFICATION 5.1; document 02, L5).
 unfoldable pub samples : List Sample
@@ -35,6 +67,9 @@ samples =
     ∷ sample EveryCost delays "tasks 2\n0 response 20 deadline 20 rounds 1\n1 response 25 deadline 25 rounds 1\nschedulable\n"
     ∷ sample OwnCost groups "tasks 3\n0 response 1 deadline 4 rounds 1\n1 late deadline 6 rounds 2\n2 response 10 deadline 10 rounds 5\nlate 1\n"
     ∷ sample EveryCost groups "tasks 3\n0 response 1 deadline 4 rounds 1\n1 late deadline 6 rounds 1\n2 response 10 deadline 10 rounds 4\nlate 1\n"
+    ∷ sample EveryCost delaysThree "tasks 2\n0 response 20 deadline 20 rounds 1\n1 response 25 deadline 25 rounds 1\nschedulable\n"
+    ∷ record { start = EveryCost; bytes = crowd 3; lines = crowdLines }
+    ∷ sample EveryCost (crowd 2) "refused 3 at 3\n"
     ∷ sample EveryCost longer "refused 4 at 0\n"
     ∷ sample EveryCost refused "refused 5 at 31\n"
     ∷ []
@@ -43,7 +78,7 @@ abbrev pub textFound : Sample → List ℕ
 textFound s = answerText (s .start) (s .bytes)
 
 abbrev pub textGiven : Sample → List ℕ
-textGiven s = bytesOf (s .text)
+textGiven s = joined bytesOf (s .lines)
 
 abbrev pub SamplesRight : Type 0
 SamplesRight = map textFound samples ≡ map textGiven samples

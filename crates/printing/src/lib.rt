@@ -25,14 +25,14 @@ use pieces::append_number;
 pub use pieces::append_with_number;
 
 // Bytes enough for the text of any table, and for the longest no more than enough: `longest` of specs/Longest.antt.
-pub const LONGEST: usize = 1675;
+pub const LONGEST: usize = 10512;
 
 // Analyses the table from either start, and puts the text of what the analysis says at the buffer's beginning; answers where it ends.
 pub fn answer_text(start: Start, table: &[u8], out: &mut [u8]) -> usize
     ensures { λ r. ⌜ Appended (now (out .entry)) 0 (answerText start (now (table .entry))) r (now (out .exit)) ⌝ }
 {
-    let mut answers = [0u32; 32];
-    let mut rounds = [0u32; 32];
+    let mut answers = [0u32; 200];
+    let mut rounds = [0u32; 200];
     let verdict = response::analyse_from(start, table, &mut answers, &mut rounds);
     text(out, 0, table, verdict, &answers, &rounds)
 }
