@@ -28,18 +28,18 @@ use Rattle.scanning.proofs.PieceLaws.{piecesRight}
 use Rattle.checking.specs.Text.{claimedLine, unreadableLine, textFor, checkText}
 use Rattle.checking.specs.Pieces.{wordsKept, lineFor, lineAfter, AnyPieces}
 
--- no table has more than 32 tasks, so that 33 words of a list are answered as the whole list is
-same-answer : (bytes claims : List ℕ) → claimedOf bytes (take 33 claims) ≡ claimedOf bytes claims
+-- no table has more than 200 tasks, so that 201 words of a list are answered as the whole list is
+same-answer : (bytes claims : List ℕ) → claimedOf bytes (take 201 claims) ≡ claimedOf bytes claims
 same-answer bytes claims =
-    elim (decLe (length claims) 33) [
-      | yes h ↦ ap (claimedOf bytes) (take-all 33 claims h)
+    elim (decLe (length claims) 201) [
+      | yes h ↦ ap (claimedOf bytes) (take-all 201 claims h)
       | no h ↦ go (readCheck 1 bytes) refl (omega arith)
     ]
   where
-    go : (c : Check) → readCheck 1 bytes ≡ c → 33 < length claims → claimedOf bytes (take 33 claims) ≡ claimedOf bytes claims
-    go (check.Refused refusal) e h = sym (read-refused bytes (take 33 claims) refusal (sym e)) ∙ read-refused bytes claims refusal (sym e)
+    go : (c : Check) → readCheck 1 bytes ≡ c → 201 < length claims → claimedOf bytes (take 201 claims) ≡ claimedOf bytes claims
+    go (check.Refused refusal) e h = sym (read-refused bytes (take 201 claims) refusal (sym e)) ∙ read-refused bytes claims refusal (sym e)
     go check.Clean e h =
-        sym (wrong-count bytes (take 33 claims) e (λ same. omega (arith, same, length-take 33 claims, few-tasks bytes e)))
+        sym (wrong-count bytes (take 201 claims) e (λ same. omega (arith, same, length-take 201 claims, few-tasks bytes e)))
         ∙ wrong-count bytes claims e (λ same. omega (arith, same, few-tasks bytes e))
 
 -- What `check_list` says is the line for what is known behind the last piece.

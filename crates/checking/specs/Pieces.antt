@@ -13,7 +13,7 @@ use Rattle.checking.specs.Text.{claimedLine, unreadableLine, checkText}
 
 -- one word more than any table has tasks
 abbrev pub wordsKept : ℕ
-wordsKept = 33
+wordsKept = 201
 
 -- what is said where so many numbers were found, of which the words hold the first, or where something can't be read
 abbrev pub lineFor : Scanned → List ℕ → List ℕ → List ℕ

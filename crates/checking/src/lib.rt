@@ -22,7 +22,7 @@ use scanning::finish;
 pub const LONGEST: usize = 35;
 
 // One word more than any table has tasks, so that a longer list is seen to be too long: `wordsKept` of specs/Pieces.antt.
-pub const WORDS: usize = 33;
+pub const WORDS: usize = 201;
 
 // The line for a list whose text is gone through, with its numbers kept in the words, and for a table. It is put at the buffer's beginning; the
 // answer is where it ends.
