@@ -10,7 +10,7 @@ use response::Start;
 
 fn main() {
     // one byte more than the longest table, so that a longer input is seen to be too long
-    let mut input = [0u8; 1062];
+    let mut input = [0u8; 4590];
     let length = io::read_full(STDIN_FILENO, &mut input);
     let mut out = [0u8; printing::LONGEST];
     let end = answer(&input[..length], &mut out);

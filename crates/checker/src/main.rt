@@ -102,7 +102,7 @@ fn check_input(scan: Scan, words: &mut [u32])
     requires { ⌜ Behind scan (now words) ⌝ }
 {
     // one byte more than the longest table
-    let mut input = [0u8; 1062];
+    let mut input = [0u8; 4590];
     let length = io::read_full(STDIN_FILENO, &mut input);
     let mut out = [0u8; checking::LONGEST];
     let end = check(scan, words, &input[..length], &mut out);
