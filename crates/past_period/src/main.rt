@@ -9,7 +9,7 @@ use libc::STDOUT_FILENO;
 
 fn main() {
     // one byte more than the longest table, so that a longer input is seen to be too long
-    let mut input = [0u8; 1062];
+    let mut input = [0u8; 4590];
     let length = io::read_full(STDIN_FILENO, &mut input);
     let mut out = [0u8; past_text::LONGEST];
     let end = answer(&input[..length], &mut out);

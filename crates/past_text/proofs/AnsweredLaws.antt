@@ -14,5 +14,5 @@ pub text-of-outcome : (bytes : List ℕ) (result : Left) → PastOutcome (lendin
 unfolding pastText
 text-of-outcome bytes result o =
     ap (λ (f : Found). pastTextOf bytes f (result .answers) (result .tried)) (o .foundIs)
-    ∙ ap (λ (a : List ℕ). pastTextOf bytes (foundOf bytes 32 32) a (result .tried)) (o .answersAre)
-    ∙ ap (pastTextOf bytes (foundOf bytes 32 32) (answersAfter bytes zeros zeros)) (o .triedAre)
+    ∙ ap (λ (a : List ℕ). pastTextOf bytes (foundOf bytes 200 200) a (result .tried)) (o .answersAre)
+    ∙ ap (pastTextOf bytes (foundOf bytes 200 200) (answersAfter bytes zeros zeros)) (o .triedAre)

@@ -81,7 +81,7 @@ past-text-long : (bytes : List ℕ) → length (pastText bytes) ≤ longestPast
 unfolding pastText
 past-text-long bytes =
     pastTextFits (lending bytes zeros zeros)
-    (leaving (foundOf bytes 32 32) (answersAfter bytes zeros zeros) (triedWordsAfter bytes zeros zeros))
+    (leaving (foundOf bytes 200 200) (answersAfter bytes zeros zeros) (triedWordsAfter bytes zeros zeros))
     (record { foundIs = refl; answersAre = refl; triedAre = refl })
 
 pub pastTextWhole : PastTextWhole

@@ -8,4 +8,4 @@ use Rattle.past_text.specs.Text.{pastTextOf}
 
 -- what `analyse_past_period` answers and leaves, as text
 unfoldable pub pastText : List ℕ → List ℕ
-pastText bytes = pastTextOf bytes (foundOf bytes 32 32) (answersAfter bytes zeros zeros) (triedWordsAfter bytes zeros zeros)
+pastText bytes = pastTextOf bytes (foundOf bytes 200 200) (answersAfter bytes zeros zeros) (triedWordsAfter bytes zeros zeros)

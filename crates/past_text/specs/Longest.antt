@@ -12,10 +12,10 @@ use Rattle.overlaps.specs.Outcome.{Call, Left, PastOutcome}
 use Rattle.past_text.specs.Text.{pastTextOf}
 use Rattle.past_text.specs.Answered.{pastText}
 
--- The lines `tasks 32` and `schedulable` have 9 and 12 bytes. A task's line has 44 besides its place, since answer and deadline are at most
--- 1,000,000 and at most 64 q are tried; and the places 0 to 31 have 54 digits.
+-- The lines `tasks 200` and `schedulable` have 10 and 12 bytes. A task's line has 44 besides its place, since answer and deadline are at most
+-- 1,000,000 and at most 64 q are tried; and the places 0 to 199 have 490 digits.
 abbrev pub longestPast : ℕ
-longestPast = 1483
+longestPast = 9312
 
 -- Whatever the second analysis says, of any bytes and in any slices, its text is no longer.
 abbrev pub PastTextFits : Type 0
@@ -23,10 +23,10 @@ PastTextFits =
     (lent : Call) (result : Left) → PastOutcome lent result →
     length (pastTextOf (lent .bytes) (result .found) (result .answers) (result .tried)) ≤ longestPast
 
--- The digits alone allow no smaller number: here the text says of 32 tasks (1000000, 1, 1000000) that each answers 1,000,000 after 64 tries.
+-- The digits alone allow no smaller number: here the text says of 200 tasks (1000000, 1, 1000000) that each answers 1,000,000 after 64 tries.
 -- This is about the text, and not about which answers the second analysis can give together.
 abbrev pub LongestPastReached : Type 0
-LongestPastReached = length (pastTextOf millionTable Schedulable (replicate 32 1000000) (replicate 32 64)) ≡ longestPast
+LongestPastReached = length (pastTextOf millionTable Schedulable (replicate 200 1000000) (replicate 200 64)) ≡ longestPast
 
 -- What `past_text` leaves in a buffer of so many bytes is whole: nothing is cut off.
 abbrev pub PastTextWhole : Type 0

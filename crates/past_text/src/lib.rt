@@ -13,14 +13,14 @@ use printing::verdict_line;
 use response::Verdict;
 
 // Bytes enough for the text of any table, and for the longest no more than enough: `longestPast` of specs/Longest.antt.
-pub const LONGEST: usize = 1483;
+pub const LONGEST: usize = 9312;
 
 // Analyses the table, and puts the text of what the second analysis says at the buffer's beginning; answers where it ends.
 pub fn past_text(table: &[u8], out: &mut [u8]) -> usize
     ensures { λ r. ⌜ Appended (now (out .entry)) 0 (pastText (now (table .entry))) r (now (out .exit)) ⌝ }
 {
-    let mut answers = [0u32; 32];
-    let mut tried = [0u32; 32];
+    let mut answers = [0u32; 200];
+    let mut tried = [0u32; 200];
     let found = analyse_past_period(table, &mut answers, &mut tried);
     text(out, 0, table, found, &answers, &tried)
 }
