@@ -29,8 +29,8 @@ use tables::fields::count;
 const FILLER: u32 = 2779096485;
 
 // Bytes enough for all lines of an entry: its table's text, and at most 27 with its number, 8 on the words that stay, 34 of the engine
-// and 273 with the rounds from the old start.
-const ROOM: usize = printing::LONGEST + 342;
+// and 1,617 with the rounds of 200 tasks from the old start.
+const ROOM: usize = printing::LONGEST + 1686;
 
 fn main() {
     let file = os::open_read(b"tables");

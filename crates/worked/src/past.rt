@@ -10,8 +10,8 @@ use overlaps::analyse_past_period;
 use past_text::found_line;
 use printing::append;
 
-// Bytes enough for its lines: at most 30 with what is found, 358 with the answers of 32 tasks, 102 with the numbers tried and 8 more.
-const ROOM: usize = 498;
+// Bytes enough for its lines: at most 30 with what is found, 2,206 with the answers of 200 tasks, 606 with the numbers tried and 8 more.
+const ROOM: usize = 2850;
 
 // Judges one table, and writes its lines in one call.
 pub fn judge(table: &[u8], answers: &mut [u32], tried: &mut [u32]) {
