@@ -1,4 +1,4 @@
--- The bits of a word, one place at a time: of words put together, of masks, and the lowest that is set.
+-- The bits of a word, one place at a time: of words put together, of words of one bit, and the lowest that is set.
 -- Assumes nothing.
 use Prim.Native.Nat.{ℕ, zero, suc, _-_, _/_, _%_, _^_, _≤_, _<_, min, max}
 use native.Mathlib.Nat.{pow-suc, div-eq-of-lt, lt-of-lt-of-le}
@@ -13,7 +13,7 @@ use lib.Pow.{pow-lt, pow-mono, pow-pos, shr-shr}
 use lib.Bits.{bitOr, bitAnd, or-step, and-step, or-shr, and-shr}
 use lib.Count.{trailingZeros}
 use Rattle.model.specs.Choice.{on}
-use Rattle.machine.specs.Machine.{bitOf, mask}
+use Rattle.machine.specs.Machine.{bitOf}
 
 -- the bits above the lowest are those of the half
 pub bit-suc : (w p : ℕ) → bitOf w (suc p) ≡ bitOf (w / 2) p
@@ -45,17 +45,21 @@ bit-and a b p = ap (λ (x : ℕ). x % 2) (and-shr a b p) ∙ lowest-and (a / 2 ^
     lowest-and : (x y : ℕ) → bitAnd x y % 2 ≡ min (x % 2) (y % 2)
     lowest-and x y = omega (arith, and-step x y)
 
--- a mask has the bit of its place and no other
-pub bit-mask : (q p : ℕ) → bitOf (mask q) p ≡ on (eqb p q) 1
-bit-mask zero zero = refl
-bit-mask zero (suc p) = rw eqb·suc-zero (high-bits 1 1 (suc p) (omega arith) (omega arith))
-bit-mask (suc q) zero = rw eqb·zero-suc (omega (arith, pow-suc 2 q))
-bit-mask (suc q) (suc p) =
-    let half : 2 ^ suc q / 2 ≡ 2 ^ q = omega (arith, pow-suc 2 q) in
-    rw (eqb·suc-suc p q) (bit-suc (2 ^ suc q) p ∙ ap (λ (x : ℕ). bitOf x p) half ∙ bit-mask q p)
+-- the word of one bit
+abbrev pub single : ℕ → ℕ
+single q = 2 ^ q
 
-pub mask-small : (k p : ℕ) → p < k → mask p < 2 ^ k
-mask-small k p h = pow-lt h
+-- it has that bit and no other
+pub bit-single : (q p : ℕ) → bitOf (single q) p ≡ on (eqb p q) 1
+bit-single zero zero = refl
+bit-single zero (suc p) = rw eqb·suc-zero (high-bits 1 1 (suc p) (omega arith) (omega arith))
+bit-single (suc q) zero = rw eqb·zero-suc (omega (arith, pow-suc 2 q))
+bit-single (suc q) (suc p) =
+    let half : 2 ^ suc q / 2 ≡ 2 ^ q = omega (arith, pow-suc 2 q) in
+    rw (eqb·suc-suc p q) (bit-suc (2 ^ suc q) p ∙ ap (λ (x : ℕ). bitOf x p) half ∙ bit-single q p)
+
+pub single-small : (k p : ℕ) → p < k → single p < 2 ^ k
+single-small k p h = pow-lt h
 
 -- all bits before k are set
 bit-ones : (k p : ℕ) → p < k → bitOf (2 ^ k - 1) p ≡ 1
@@ -65,8 +69,8 @@ bit-ones (suc k) (suc p) h =
     let half : (2 ^ suc k - 1) / 2 ≡ 2 ^ k - 1 = omega (arith, pow-suc 2 k, pow-pos k) in
     bit-suc (2 ^ suc k - 1) p ∙ ap (λ (x : ℕ). bitOf x p) half ∙ bit-ones k p (omega arith)
 
--- the opposite of a mask, in k bits, has all bits but that of its place
-pub bit-inverse : (k q p : ℕ) → q < k → p < k → bitOf (2 ^ k - 1 - mask q) p ≡ on (not (eqb p q)) 1
+-- the opposite of such a word, in k bits, has all bits but that of its place
+pub bit-inverse : (k q p : ℕ) → q < k → p < k → bitOf (2 ^ k - 1 - single q) p ≡ on (not (eqb p q)) 1
 bit-inverse zero q p h l = absurd (omega arith)
 bit-inverse (suc k) zero zero h l = omega (arith, pow-suc 2 k, pow-pos k)
 bit-inverse (suc k) zero (suc p) h l =
@@ -80,20 +84,20 @@ bit-inverse (suc k) (suc q) (suc p) h l =
     rw (eqb·suc-suc p q)
     (bit-suc (2 ^ suc k - 1 - 2 ^ suc q) p ∙ ap (λ (x : ℕ). bitOf x p) half ∙ bit-inverse k q p (omega arith) (omega arith))
 
--- a bit is set by a mask, and cleared by its opposite; the others stay
-pub set-own : (w q p : ℕ) → p ≡ q → bitOf (bitOr w (mask q)) p ≡ 1
-set-own w q p e = omega (arith, bit-or w (mask q) p, rw (eq-eqb p q e) at (bit-mask q p))
+-- a bit is set by a word of one bit, and cleared by its opposite; the others stay
+pub set-own : (w q p : ℕ) → p ≡ q → bitOf (bitOr w (single q)) p ≡ 1
+set-own w q p e = omega (arith, bit-or w (single q) p, rw (eq-eqb p q e) at (bit-single q p))
 
-pub set-other : (w q p : ℕ) → ¬ (p ≡ q) → bitOf (bitOr w (mask q)) p ≡ bitOf w p
-set-other w q p e = omega (arith, bit-or w (mask q) p, rw (ne-eqb p q e) at (bit-mask q p))
+pub set-other : (w q p : ℕ) → ¬ (p ≡ q) → bitOf (bitOr w (single q)) p ≡ bitOf w p
+set-other w q p e = omega (arith, bit-or w (single q) p, rw (ne-eqb p q e) at (bit-single q p))
 
-pub clear-own : (k w q p : ℕ) → q < k → p ≡ q → bitOf (bitAnd w (2 ^ k - 1 - mask q)) p ≡ 0
+pub clear-own : (k w q p : ℕ) → q < k → p ≡ q → bitOf (bitAnd w (2 ^ k - 1 - single q)) p ≡ 0
 clear-own k w q p h e =
-    omega (arith, bit-and w (2 ^ k - 1 - mask q) p, rw (eq-eqb p q e) at (bit-inverse k q p h (omega arith)))
+    omega (arith, bit-and w (2 ^ k - 1 - single q) p, rw (eq-eqb p q e) at (bit-inverse k q p h (omega arith)))
 
-pub clear-other : (k w q p : ℕ) → q < k → p < k → ¬ (p ≡ q) → bitOf (bitAnd w (2 ^ k - 1 - mask q)) p ≡ bitOf w p
+pub clear-other : (k w q p : ℕ) → q < k → p < k → ¬ (p ≡ q) → bitOf (bitAnd w (2 ^ k - 1 - single q)) p ≡ bitOf w p
 clear-other k w q p h l e =
-    omega (arith, bit-and w (2 ^ k - 1 - mask q) p, rw (ne-eqb p q e) at (bit-inverse k q p h l))
+    omega (arith, bit-and w (2 ^ k - 1 - single q) p, rw (ne-eqb p q e) at (bit-inverse k q p h l))
 
 -- the zeros below the lowest bit: one more than the half has, or none
 trailing-even : (k w : ℕ) → w % 2 ≡ 0 → trailingZeros (suc k) w ≡ suc (trailingZeros k (w / 2))

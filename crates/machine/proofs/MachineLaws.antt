@@ -1,6 +1,6 @@
--- What the engine holds: its ready word says of each task whether work is left for it, and its trailing zeros find the first of those.
+-- What the engine holds: its ready words say of each task whether work is left for it, and their trailing zeros find the first of those.
 -- Assumes nothing.
-use Prim.Native.Nat.{ℕ, zero, suc, _+_, _-_, _*_, _≤_, _<_, max}
+use Prim.Native.Nat.{ℕ, zero, suc, _+_, _-_, _*_, _/_, _%_, _^_, _≤_, _<_, min, max}
 use native.Mathlib.Nat.{add-zero, zero-mul, suc-mul, lt-of-le-of-lt}
 use native.Mathlib.Decide.{ℕ-discrete, decLe}
 use native.Mathlib.Omega.{arith}
@@ -8,18 +8,18 @@ use mathlib.Core.Path.{_≡_, refl, sym, _∙_, ap}
 use mathlib.Core.Bool.{Bool, true, false}
 use mathlib.Core.Logic.{inl, inr}
 use borrow.Author.Tests.{lt-ltb, le-ltb, eq-eqb, ne-eqb}
-use lib.Dec.{ltb, eqb}
+use lib.Dec.{ltb, eqb, lit<}
 use lib.Bits.{bitAnd, or-lt, and-le-l}
-use lib.Count.{trailingZeros, trailing-le, trailing-of-zero}
 use Rattle.model.specs.Choice.{both, on}
 use Rattle.model.proofs.Tests.{bool?, ltb?, eqb?, on-high, both-fail}
-use Rattle.machine.specs.Machine.{State, started, bitOf, mask, isDue, leftWith, raised, released, nextPlace, leftAfter, readyAfter, after, placeServed}
-use Rattle.machine.proofs.BitLaws.{high-bits, no-bits, mask-small, set-own, set-other, clear-own, clear-other, lowest-first, lowest-set}
+use Rattle.machine.specs.Machine.{State, started, bitOf, bitAt, mask, isDue, leftWith, raised, inWord, released, nextPlace, leftAfter, readyAfter, after, placeServed}
+use Rattle.machine.proofs.BitLaws.{high-bits, no-bits, single-small, set-own, set-other, clear-own, clear-other}
+use Rattle.machine.proofs.WordLaws.{bit-of-zero, Lowest, lowest-next}
 
 -- a bit is set for each of the n places where work is left, and for no other
-pub record Mirrors (n : ℕ) (left : ℕ → ℕ) (ready : ℕ) : Type 0 where
-  pub bits : (p : ℕ) → bitOf ready p ≡ on (both (ltb p n) (ltb 0 (left p))) 1
-  pub small : ready < 4294967296
+pub record Mirrors (n : ℕ) (left : ℕ → ℕ) (ready : ℕ → ℕ) : Type 0 where
+  pub bits : (p : ℕ) → bitAt ready p ≡ on (both (ltb p n) (ltb 0 (left p))) 1
+  pub small : (w : ℕ) → ready w < 2 ^ 64
 
 -- the first place where work is left
 pub record Next (n : ℕ) (left : ℕ → ℕ) (place : ℕ) : Type 0 where
@@ -53,13 +53,21 @@ pub after-other : (left : ℕ → ℕ) (q p : ℕ) → ¬ (p ≡ q) → leftAfte
 after-other left q p d = rw (ne-eqb p q d) (omega arith)
 
 -- a word without a bit stays so
-pub still-none : (last : Bool) (q : ℕ) → readyAfter last q 0 ≡ 0
-still-none true q = refl
-still-none false q = refl
+pub still-none : (last : Bool) (q : ℕ) (ready : ℕ → ℕ) (w : ℕ) → ready w ≡ 0 → readyAfter last q ready w ≡ 0
+still-none last q ready w e =
+    elim (bool? (both last (eqb w (q / 64)))) [ inl h ↦ rw (h, e) | inr h ↦ rw (h, e) ]
 
-module _ (n : ℕ) (few : n ≤ 32) (left : ℕ → ℕ) (ready : ℕ) (mirrors : Mirrors n left ready) where
+-- and a word other than that of the place
+pub other-word : (last : Bool) (q : ℕ) (ready : ℕ → ℕ) (w : ℕ) → ¬ (w ≡ q / 64) → readyAfter last q ready w ≡ ready w
+other-word last q ready w d = rw (ne-eqb w (q / 64) d, both-fail last false refl)
+
+-- the words after a tick: where it takes the last of the work of place q, the word of q loses a bit
+last-own : (q : ℕ) (ready : ℕ → ℕ) (w : ℕ) → w ≡ q / 64 → readyAfter true q ready w ≡ bitAnd (ready w) (18446744073709551615 - mask q)
+last-own q ready w e = rw (eq-eqb w (q / 64) e)
+
+module _ (n : ℕ) (few : n ≤ 256) (left : ℕ → ℕ) (ready : ℕ → ℕ) (mirrors : Mirrors n left ready) where
   -- what a bit says
-  bit-set : (p : ℕ) → bitOf ready p ≡ 1 → (p < n) × (1 ≤ left p)
+  bit-set : (p : ℕ) → bitAt ready p ≡ 1 → (p < n) × (1 ≤ left p)
   bit-set p e =
       elim (decLe n p) [
         | yes h ↦ absurd (omega (arith, mirrors .bits p, work-past n p (left p) h))
@@ -69,72 +77,108 @@ module _ (n : ℕ) (few : n ≤ 32) (left : ℕ → ℕ) (ready : ℕ) (mirrors 
         ]
       ]
 
-  bit-clear : (p : ℕ) → p < n → bitOf ready p ≡ 0 → left p ≡ 0
+  bit-clear : (p : ℕ) → p < n → bitAt ready p ≡ 0 → left p ≡ 0
   bit-clear p h e =
       elim (ℕ-discrete (left p) 0) [
         | yes z ↦ z
         | no z ↦ absurd (omega (arith, mirrors .bits p, work-some n p (left p) h (omega arith)))
       ]
 
-  -- without a bit no work is left, and without work there is no bit
-  none-left : ready ≡ 0 → (p : ℕ) → p < n → left p ≡ 0
-  none-left e p h = bit-clear p h (high-bits 0 ready p (omega arith) (omega arith))
+  lowest : Lowest ready (nextPlace ready)
+  lowest = lowest-next ready (mirrors .small)
 
-  none-ready : ((p : ℕ) → p < n → left p ≡ 0) → ready ≡ 0
-  none-ready e =
-      no-bits 32 ready (mirrors .small) (λ p l. mirrors .bits p ∙ work-same n p (left p) 0 (e p) ∙ work-none n p 0 refl)
+  -- without a bit no work is left
+  none-left : nextPlace ready ≡ 256 → (p : ℕ) → p < n → left p ≡ 0
+  none-left e p h = bit-clear p h (lowest .noneBefore p (omega arith))
 
   -- else the trailing zeros give the first place where work is left
-  next-found : ¬ (ready ≡ 0) → Next n left (nextPlace ready)
+  next-found : ¬ (nextPlace ready ≡ 256) → Next n left (nextPlace ready)
   next-found some =
-      let high = trailing-le 32 ready in
-      let low : trailingZeros 32 ready < 32 = elim (ℕ-discrete (trailingZeros 32 ready) 32) [
-        | yes e ↦ absurd (some (no-bits 32 ready (mirrors .small) (λ p l. lowest-first 32 ready p (omega arith))))
-        | no e ↦ omega arith
-      ] in
-      let own = bit-set (nextPlace ready) (lowest-set 32 ready low) in
+      let own = bit-set (nextPlace ready) (lowest .found (omega (arith, lowest .within))) in
       record {
         isPlace = own .0;
         hasWork = own .1;
-        first = λ p l. bit-clear p (omega (arith, own .0)) (lowest-first 32 ready p l);
+        first = λ p l. bit-clear p (omega (arith, own .0)) (lowest .noneBefore p l);
       }
 
-  -- a tick's service keeps word and work together: where there is nothing to serve,
-  served-none : (last : Bool) (q : ℕ) → ready ≡ 0 → Mirrors n (leftAfter left q) (readyAfter last q ready)
-  served-none last q e =
+  -- and without work there is no bit
+  none-ready : ((p : ℕ) → p < n → left p ≡ 0) → nextPlace ready ≡ 256
+  none-ready e =
+      elim (ℕ-discrete (nextPlace ready) 256) [
+        | yes z ↦ z
+        | no d ↦ let next = next-found d in absurd (omega (arith, next .hasWork, e (nextPlace ready) (next .isPlace)))
+      ]
+
+  -- nor is there one in a word of no task
+  empty-word : (w : ℕ) → n ≤ 64 * w → ready w ≡ 0
+  empty-word w h =
+      no-bits 64 (ready w) (mirrors .small w) (λ b l.
+      let at-word : (64 * w + b) / 64 ≡ w = omega arith in
+      let at-bit : (64 * w + b) % 64 ≡ b = omega arith in
+      rw (at-word, at-bit) at (mirrors .bits (64 * w + b)) ∙ work-past n (64 * w + b) (left (64 * w + b)) (omega arith))
+
+  -- a tick's service keeps words and work together: where there is nothing to serve,
+  served-none : (last : Bool) (q : ℕ) → nextPlace ready ≡ 256 → n ≤ q → Mirrors n (leftAfter left q) (readyAfter last q ready)
+  served-none last q e past =
       record {
-        bits = λ p. rw (e, still-none last q) (high-bits 0 0 p (omega arith) (omega arith) ∙ sym (none p));
-        small = rw (e, still-none last q) (omega arith);
+        bits = λ p. elim (decLe n p) [
+          | yes h ↦ unchanged p (omega arith) ∙ sym (work-past n p (leftAfter left q p) h)
+          | no h ↦
+              unchanged p (omega arith)
+              ∙ sym (work-none n p (leftAfter left q p) (omega (arith, none-left e p (omega arith), after-other left q p (omega arith))))
+        ];
+        small = λ w. small-after last q w;
       }
     where
-      none : (p : ℕ) → workBit n p (leftAfter left q p) ≡ 0
-      none p =
-          work-same n p (leftAfter left q p) 0 (λ h. omega (arith, none-left e p h)) ∙ work-none n p 0 refl
+      all-none : (p : ℕ) → bitAt ready p ≡ 0
+      all-none p = mirrors .bits p ∙ elim (decLe n p) [ yes h ↦ work-past n p (left p) h | no h ↦ work-none n p (left p) (none-left e p (omega arith)) ]
+
+      zero-word : (w : ℕ) → ready w ≡ 0
+      zero-word w =
+          no-bits 64 (ready w) (mirrors .small w) (λ b l.
+          let at-word : (64 * w + b) / 64 ≡ w = omega arith in
+          let at-bit : (64 * w + b) % 64 ≡ b = omega arith in
+          rw (at-word, at-bit) at (all-none (64 * w + b)))
+
+      unchanged : (p : ℕ) → 0 ≤ p → bitAt (readyAfter last q ready) p ≡ 0
+      unchanged p h = ap (λ (word : ℕ). bitOf word (p % 64)) (still-none last q ready (p / 64) (zero-word (p / 64))) ∙ bit-of-zero (p % 64)
+
+      small-after : (last : Bool) (q w : ℕ) → readyAfter last q ready w < 2 ^ 64
+      small-after last q w = rw (still-none last q ready w (zero-word w)) (omega arith)
 
   module _ (q : ℕ) (isPlace : q < n) (hasWork : 1 ≤ left q) where
     -- where it takes the last of the work,
-    served-last : left q ≡ 1 → Mirrors n (leftAfter left q) (bitAnd ready (4294967295 - mask q))
-    served-last e =
-        record { bits = go; small = low }
+    served-last : left q ≡ 1 → Mirrors n (leftAfter left q) (readyAfter true q ready)
+    served-last e = record { bits = go; small = low }
       where
-        low : bitAnd ready (4294967295 - mask q) < 4294967296
-        low = lt-of-le-of-lt (and-le-l ready (4294967295 - mask q)) (mirrors .small)
+        low : (w : ℕ) → readyAfter true q ready w < 2 ^ 64
+        low w =
+            elim (ℕ-discrete w (q / 64)) [
+              | yes s ↦ rw (last-own q ready w s) (lt-of-le-of-lt (and-le-l (ready w) (18446744073709551615 - mask q)) (mirrors .small w))
+              | no d ↦ rw (other-word true q ready w d) (mirrors .small w)
+            ]
 
-        go : (p : ℕ) → bitOf (bitAnd ready (4294967295 - mask q)) p ≡ workBit n p (leftAfter left q p)
+        go : (p : ℕ) → bitAt (readyAfter true q ready) p ≡ workBit n p (leftAfter left q p)
         go p =
-            elim (ℕ-discrete p q) [
+            elim (ℕ-discrete (p / 64) (q / 64)) [
+              | no d ↦
+                  ap (λ (word : ℕ). bitOf word (p % 64)) (other-word true q ready (p / 64) d)
+                  ∙ rw (after-other left q p (λ s. d (ap (λ (x : ℕ). x / 64) s))) (mirrors .bits p)
               | yes s ↦
-                  clear-own 32 ready q p (omega arith) s
-                  ∙ sym (work-none n p (leftAfter left q p) (after-own left q p s ∙ omega (arith, ap left s)))
-              | no d ↦ rw (after-other left q p d) (elim (decLe 32 p) [
-                | yes h ↦
-                    high-bits 32 (bitAnd ready (4294967295 - mask q)) p low h ∙ sym (work-past n p (left p) (omega arith))
-                | no h ↦ clear-other 32 ready q p (omega arith) (omega arith) d ∙ mirrors .bits p
-              ])
+                  ap (λ (word : ℕ). bitOf word (p % 64)) (last-own q ready (p / 64) s)
+                  ∙ elim (ℕ-discrete p q) [
+                    | yes same ↦
+                        clear-own 64 (ready (p / 64)) (q % 64) (p % 64) (omega arith) (ap (λ (x : ℕ). x % 64) same)
+                        ∙ sym (work-none n p (leftAfter left q p) (after-own left q p same ∙ omega (arith, ap left same)))
+                    | no other ↦
+                        rw (after-other left q p other)
+                        (clear-other 64 (ready (p / 64)) (q % 64) (p % 64) (omega arith) (omega arith) (λ bit. other (omega (arith, s, bit)))
+                        ∙ mirrors .bits p)
+                  ]
             ]
 
     -- and where some is left
-    served-more : ¬ (left q ≡ 1) → Mirrors n (leftAfter left q) ready
+    served-more : ¬ (left q ≡ 1) → Mirrors n (leftAfter left q) (readyAfter false q ready)
     served-more e =
         record {
           bits = λ p. elim (ℕ-discrete p q) [
@@ -149,8 +193,8 @@ module _ (n : ℕ) (few : n ≤ 32) (left : ℕ → ℕ) (ready : ℕ) (mirrors 
 
   served-mirrors : Mirrors n (leftAfter left (nextPlace ready)) (readyAfter (eqb (left (nextPlace ready)) 1) (nextPlace ready) ready)
   served-mirrors =
-      elim (ℕ-discrete ready 0) [
-        | yes e ↦ served-none (eqb (left (nextPlace ready)) 1) (nextPlace ready) e
+      elim (ℕ-discrete (nextPlace ready) 256) [
+        | yes e ↦ served-none (eqb (left (nextPlace ready)) 1) (nextPlace ready) e (omega arith)
         | no d ↦
             let next = next-found d in
             elim (eqb? (left (nextPlace ready)) 1) [
@@ -159,51 +203,74 @@ module _ (n : ℕ) (few : n ≤ 32) (left : ℕ → ℕ) (ready : ℕ) (mirrors 
             ]
       ]
 
--- a tick's releases set the bits of the places before m that are due
-raised-bit : (due : ℕ → ℕ) (t ready m p : ℕ) →
-    bitOf (raised due t ready m) p ≡ max (bitOf ready p) (on (both (ltb p m) (isDue due t p)) 1)
+-- the mask of a task of word w, counted within it
+mask-in : (w m : ℕ) → m < 64 → mask (64 * w + m) ≡ 2 ^ m
+mask-in w m h =
+    let bit : (64 * w + m) % 64 ≡ m = omega arith in
+    ap (λ (x : ℕ). 2 ^ x) bit
+
+-- a tick's releases set the bits of the first m tasks of word w that are due
+raised-bit : (due : ℕ → ℕ) (t w word m b : ℕ) → m ≤ 64 →
+    bitOf (raised due t (64 * w) word m) b ≡ max (bitOf word b) (on (both (ltb b m) (isDue due t (64 * w + b))) 1)
 unfolding raised
-raised-bit due t ready zero p = rw (le-ltb p 0 (omega arith)) (omega arith)
-raised-bit due t ready (suc m) p =
-    elim (ℕ-discrete p m) [
-      | yes s ↦ elim (eqb? (due m) t) [
+raised-bit due t w word zero b few = rw (le-ltb b 0 (omega arith)) (omega arith)
+raised-bit due t w word (suc m) b few =
+    rw (mask-in w m (omega arith)) (elim (ℕ-discrete b m) [
+      | yes s ↦ elim (eqb? (due (64 * w + m)) t) [
         | inl e ↦
-            rw (e .0, lt-ltb p (suc m) (omega arith), eq-eqb (due p) t (ap due s ∙ e .1)) (omega (arith, set-own (raised due t ready m) m p s))
+            rw (e .0, lt-ltb b (suc m) (omega arith), eq-eqb (due (64 * w + b)) t (ap (λ (x : ℕ). due (64 * w + x)) s ∙ e .1))
+            (omega (arith, set-own (raised due t (64 * w) word m) m b s))
         | inr e ↦
-            rw (e .0, lt-ltb p (suc m) (omega arith), ne-eqb (due p) t (λ z. e .1 (sym (ap due s) ∙ z)))
-            (omega (arith, rw (le-ltb p m (omega arith)) at (raised-bit due t ready m p)))
+            rw (e .0, lt-ltb b (suc m) (omega arith), ne-eqb (due (64 * w + b)) t (λ z. e .1 (sym (ap (λ (x : ℕ). due (64 * w + x)) s) ∙ z)))
+            (omega (arith, rw (le-ltb b m (omega arith)) at (raised-bit due t w word m b (omega arith))))
       ]
-      | no d ↦ rw (same d) (elim (bool? (isDue due t m)) [
-        | inl e ↦ rw e (set-other (raised due t ready m) m p d ∙ raised-bit due t ready m p)
-        | inr e ↦ rw e (raised-bit due t ready m p)
+      | no d ↦ rw (same d) (elim (bool? (isDue due t (64 * w + m))) [
+        | inl e ↦ rw e (set-other (raised due t (64 * w) word m) m b d ∙ raised-bit due t w word m b (omega arith))
+        | inr e ↦ rw e (raised-bit due t w word m b (omega arith))
       ])
-    ]
+    ])
   where
-    same : ¬ (p ≡ m) → ltb p (suc m) ≡ ltb p m
+    same : ¬ (b ≡ m) → ltb b (suc m) ≡ ltb b m
     same d =
-        elim (ltb? p m) [
-          | inl h ↦ lt-ltb p (suc m) (omega arith) ∙ sym (h .0)
-          | inr h ↦ le-ltb p (suc m) (omega arith) ∙ sym (h .0)
+        elim (ltb? b m) [
+          | inl h ↦ lt-ltb b (suc m) (omega arith) ∙ sym (h .0)
+          | inr h ↦ le-ltb b (suc m) (omega arith) ∙ sym (h .0)
         ]
 
--- and the word stays one of 32 bits
-raised-low : (due : ℕ → ℕ) (t ready m : ℕ) → m ≤ 32 → ready < 4294967296 → raised due t ready m < 4294967296
+-- and the word stays one of 64 bits
+raised-low : (due : ℕ → ℕ) (t w word m : ℕ) → m ≤ 64 → word < 2 ^ 64 → raised due t (64 * w) word m < 2 ^ 64
 unfolding raised
-raised-low due t ready zero h l = l
-raised-low due t ready (suc m) h l =
-    elim (bool? (isDue due t m)) [
-      | inl e ↦ rw e (or-lt 32 (raised due t ready m) (mask m) (raised-low due t ready m (omega arith) l) (mask-small 32 m (omega arith)))
-      | inr e ↦ rw e (raised-low due t ready m (omega arith) l)
-    ]
+raised-low due t w word zero h l = l
+raised-low due t w word (suc m) h l =
+    rw (mask-in w m (omega arith)) (elim (bool? (isDue due t (64 * w + m))) [
+      | inl e ↦
+          rw e
+          (or-lt 64 (raised due t (64 * w) word m) (2 ^ m) (raised-low due t w word m (omega arith) l) (single-small 64 m (omega arith)))
+      | inr e ↦ rw e (raised-low due t w word m (omega arith) l)
+    ])
 
--- a tick's releases keep word and work together
-released-mirrors : (cost : ℕ → ℕ) (n : ℕ) → n ≤ 32 → ((p : ℕ) → p < n → 1 ≤ cost p) →
-    (due : ℕ → ℕ) (t : ℕ) (left : ℕ → ℕ) (ready : ℕ) → Mirrors n left ready →
-    Mirrors n (leftWith cost due t left) (raised due t ready n)
-released-mirrors cost n few costLow due t left ready mirrors =
-    record { bits = λ p. raised-bit due t ready n p ∙ go p; small = raised-low due t ready n few (mirrors .small) }
+-- a tick's releases keep words and work together
+released-mirrors : (cost : ℕ → ℕ) (n : ℕ) → ((p : ℕ) → p < n → 1 ≤ cost p) →
+    (due : ℕ → ℕ) (t : ℕ) (left : ℕ → ℕ) (ready : ℕ → ℕ) → Mirrors n left ready →
+    Mirrors n (leftWith cost due t left) (λ w. raised due t (64 * w) (ready w) (inWord n w))
+released-mirrors cost n costLow due t left ready mirrors =
+    record {
+      bits = λ p.
+          let place : 64 * (p / 64) + p % 64 ≡ p = omega arith in
+          raised-bit due t (p / 64) (ready (p / 64)) (inWord n (p / 64)) (p % 64) (omega arith)
+          ∙ ap (λ (x : ℕ). max (bitAt ready p) (on (both (ltb (p % 64) (inWord n (p / 64))) (isDue due t x)) 1)) place
+          ∙ rw (inside p) (go p);
+      small = λ w. raised-low due t w (ready w) (inWord n w) (omega arith) (mirrors .small w);
+    }
   where
-    go : (p : ℕ) → max (bitOf ready p) (on (both (ltb p n) (isDue due t p)) 1) ≡ workBit n p (leftWith cost due t left p)
+    inside : (p : ℕ) → ltb (p % 64) (inWord n (p / 64)) ≡ ltb p n
+    inside p =
+        elim (ltb? p n) [
+          | inl h ↦ lt-ltb (p % 64) (inWord n (p / 64)) (omega arith) ∙ sym (h .0)
+          | inr h ↦ le-ltb (p % 64) (inWord n (p / 64)) (omega arith) ∙ sym (h .0)
+        ]
+
+    go : (p : ℕ) → max (bitAt ready p) (on (both (ltb p n) (isDue due t p)) 1) ≡ workBit n p (leftWith cost due t left p)
     go p =
         elim (ltb? p n) [
           | inr h ↦ rw (mirrors .bits p, h .0)
@@ -288,41 +355,46 @@ module _ (period cost : ℕ → ℕ) (n : ℕ) where
             )
       ]
 
-  module _ (few : n ≤ 32) (costLow : (p : ℕ) → p < n → 1 ≤ cost p) where
-    -- word and work are together before each tick, and once its releases are made
+  module _ (few : n ≤ 256) (costLow : (p : ℕ) → p < n → 1 ≤ cost p) where
+    -- words and work are together before each tick, and once its releases are made
     releases-mirror : (t : ℕ) → Mirrors n (after period cost n t .left) (after period cost n t .ready) →
         Mirrors n (inTick t .left) (inTick t .ready)
     releases-mirror t =
-        released-mirrors cost n few costLow (after period cost n t .due) t (after period cost n t .left) (after period cost n t .ready)
+        released-mirrors cost n costLow (after period cost n t .due) t (after period cost n t .left) (after period cost n t .ready)
 
     held-mirrors : (t : ℕ) → Mirrors n (after period cost n t .left) (after period cost n t .ready)
     unfolding after
     held-mirrors zero =
-        record { bits = λ p. high-bits 0 0 p (omega arith) (omega arith) ∙ sym (work-none n p 0 refl); small = omega arith }
+        record { bits = λ p. bit-of-zero (p % 64) ∙ sym (work-none n p 0 refl); small = λ w. lit< tt }
     held-mirrors (suc t) = served-mirrors n few (inTick t .left) (inTick t .ready) (releases-mirror t (held-mirrors t))
 
     tick-mirrors : (t : ℕ) → Mirrors n (inTick t .left) (inTick t .ready)
     tick-mirrors t = releases-mirror t (held-mirrors t)
 
-    pub ready-bits : (t p : ℕ) → bitOf (after period cost n t .ready) p ≡ on (both (ltb p n) (ltb 0 (after period cost n t .left p))) 1
+    pub ready-bits : (t p : ℕ) → bitAt (after period cost n t .ready) p ≡ on (both (ltb p n) (ltb 0 (after period cost n t .left p))) 1
     ready-bits t = held-mirrors t .bits
 
+    -- no bit is set in a word of no task
+    pub words-empty : (t w : ℕ) → n ≤ 64 * w → after period cost n t .ready w ≡ 0
+    words-empty t = empty-word n few (after period cost n t .left) (after period cost n t .ready) (held-mirrors t)
+
+    pub tick-empty : (t w : ℕ) → n ≤ 64 * w → inTick t .ready w ≡ 0
+    tick-empty t = empty-word n few (inTick t .left) (inTick t .ready) (tick-mirrors t)
+
     -- where a bit is set, the tick serves the first place where work is left
-    pub the-next : (t : ℕ) → ¬ (inTick t .ready ≡ 0) → Next n (inTick t .left) (placeServed period cost n t)
+    pub the-next : (t : ℕ) → ¬ (placeServed period cost n t ≡ 256) → Next n (inTick t .left) (placeServed period cost n t)
     the-next t = next-found n few (inTick t .left) (inTick t .ready) (tick-mirrors t)
 
     -- where none is set, no work is left
-    pub none-next : (t : ℕ) → inTick t .ready ≡ 0 → (p : ℕ) → p < n → inTick t .left p ≡ 0
+    pub none-next : (t : ℕ) → placeServed period cost n t ≡ 256 → (p : ℕ) → p < n → inTick t .left p ≡ 0
     none-next t = none-left n few (inTick t .left) (inTick t .ready) (tick-mirrors t)
 
-    pub none-held : (t : ℕ) → after period cost n t .ready ≡ 0 → (p : ℕ) → p < n → after period cost n t .left p ≡ 0
+    pub none-held : (t : ℕ) → nextPlace (after period cost n t .ready) ≡ 256 → (p : ℕ) → p < n → after period cost n t .left p ≡ 0
     none-held t = none-left n few (after period cost n t .left) (after period cost n t .ready) (held-mirrors t)
 
     -- and where no work is left, none is set, and no task's place is served
-    pub next-none : (t : ℕ) → ((p : ℕ) → p < n → inTick t .left p ≡ 0) → (inTick t .ready ≡ 0) × (placeServed period cost n t ≡ 32)
-    next-none t e =
-        let empty = none-ready n few (inTick t .left) (inTick t .ready) (tick-mirrors t) e in
-        (empty, ap nextPlace empty ∙ trailing-of-zero 32)
+    pub next-none : (t : ℕ) → ((p : ℕ) → p < n → inTick t .left p ≡ 0) → placeServed period cost n t ≡ 256
+    next-none t = none-ready n few (inTick t .left) (inTick t .ready) (tick-mirrors t)
 
     -- there is one first place where work is left
     pub next-is : (t q : ℕ) → q < n → 1 ≤ inTick t .left q → ((p : ℕ) → p < q → inTick t .left p ≡ 0) →
@@ -338,12 +410,12 @@ module _ (period cost : ℕ → ℕ) (n : ℕ) where
         ]
 
     -- every task is released in tick 0, so there is work in it
-    pub start-ready : 1 ≤ n → ¬ (inTick 0 .ready ≡ 0)
+    pub start-ready : 1 ≤ n → ¬ (placeServed period cost n 0 ≡ 256)
     unfolding after
     start-ready some e = omega (arith, none-next 0 e 0 (omega arith), costLow 0 (omega arith))
 
     -- what is ready before the releases is ready after them
-    pub stay-ready : (t : ℕ) → ¬ (after period cost n t .ready ≡ 0) → ¬ (inTick t .ready ≡ 0)
+    pub stay-ready : (t : ℕ) → ¬ (nextPlace (after period cost n t .ready) ≡ 256) → ¬ (placeServed period cost n t ≡ 256)
     stay-ready t some e =
         let next = next-found n few (after period cost n t .left) (after period cost n t .ready) (held-mirrors t) some in
         omega (arith, next .hasWork, none-next t e (nextPlace (after period cost n t .ready)) (next .isPlace))

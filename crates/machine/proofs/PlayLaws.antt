@@ -1,9 +1,10 @@
 -- The ticks that are played: what the slices hold before and after each of them, what is reported, and where the play stops.
 -- Assumes nothing.
-use Prim.Native.Nat.{ℕ, zero, suc, _+_, _-_, _≤_, _<_}
+use Prim.Native.Nat.{ℕ, zero, suc, _+_, _-_, _*_, _≤_, _<_}
 use native.Mathlib.Omega.{arith}
+use native.Mathlib.Decide.{decLt}
 use native.Mathlib.Numerals.{add-one}
-use mathlib.Core.Path.{_≡_, refl, sym, _∙_, ap}
+use mathlib.Core.Path.{_≡_, refl, sym, _∙_, ap, fun-ext}
 use mathlib.Core.Bool.{Bool}
 use mathlib.Core.List.{List}
 use mathlib.Core.Logic.{inl, inr}
@@ -12,16 +13,23 @@ use lib.ListN.{length, set, replicate, length-replicate, getD-replicate}
 use borrow.Author.Tests.{eq-eqb, ne-eqb}
 use Rattle.model.specs.Lists.{filled, wordOf}
 use Rattle.model.specs.Search.{firstFrom}
-use Rattle.model.proofs.Lists.{getD-filled, length-filled}
+use Rattle.model.proofs.Lists.{getD-filled, getD-filled-past, length-filled}
 use Rattle.model.proofs.Filling.{filled-set, filled-again, filled-same, filled-word, is-filled}
 use Rattle.model.proofs.Search.{finds, missed}
 use Rattle.model.proofs.Tests.{eqb?, ltb?, clash}
-use Rattle.machine.specs.Machine.{State, after, nextPlace, placeServed, earliest, none, played, upTo, isQuiet, ticksPlayed}
-use Rattle.machine.specs.Slices.{TasksHeld, DeadlinesHeld, StateHeld, StartHeld, Leaves, PlayLeaves, HasNext, stateIn, releasedIn, servedIn, reportedIn}
-use Rattle.machine.proofs.MachineLaws.{Next, inTick, left-step, left-high, due-is, the-next, start-ready, stay-ready, after-own}
+use Rattle.machine.specs.Machine.{State, inWord, after, nextPlace, placeServed, earliest, behind, nextIn, none, played, upTo, isQuiet, ticksPlayed}
+use Rattle.machine.specs.Slices.{TasksHeld, DeadlinesHeld, Kept, kept, StateHeld, Known, StartHeld, Leaves, PlayLeaves, HasNext, wordsFor, stateIn, releasedIn, servedIn, reportedIn}
+use Rattle.machine.proofs.MachineLaws.{Next, inTick, left-step, left-high, due-is, words-empty, tick-empty, the-next, start-ready, stay-ready, after-own}
+use Rattle.machine.proofs.WordLaws.{next-none}
 use Rattle.machine.proofs.ReportLaws.{search-on, reported, report-none, report-late, report-all, report-on, report-other, report-quiet, report-own}
 use Rattle.machine.proofs.SameLaws.{Same, release-same, serve-same}
 use Rattle.machine.proofs.ReleaseLaws.{earliest-high, earliest-same}
+
+-- every task is due at 0 before the first tick
+first-due : (m : ℕ) → 1 ≤ m → earliest (λ p. 0) m ≡ 0
+unfolding earliest
+first-due zero h = absurd (omega arith)
+first-due (suc m) h = omega arith
 
 module _ (periods costs : List ℕ) (n : ℕ) where
   abbrev engine : ℕ → State
@@ -34,89 +42,123 @@ module _ (periods costs : List ℕ) (n : ℕ) where
   quiet = isQuiet (wordOf periods) (wordOf costs) n
 
   -- before tick t: the state after the ticks before it stands in the slices, and after none of them all work was done
-  pub record Playing (limit : ℕ) (left₀ due₀ : List ℕ) (t : ℕ) (left due : List ℕ) (ready next : ℕ) : Type 0 where
+  pub record Playing (limit : ℕ) (first : Kept) (t : ℕ) (k : Kept) (place next : ℕ) : Type 0 where
     pub early : t ≤ limit
-    pub holds : Leaves n left₀ due₀ (engine t) left due ready next
+    pub holds : Leaves n first (engine t) k next
+    pub placeIs : place ≡ nextPlace (engine t .ready)
     pub busy : firstFrom quiet 1 t ≡ 0
 
-  module _ (tasks : TasksHeld periods costs n) (limit : ℕ) (short : limit ≤ 1000000) (left₀ due₀ : List ℕ)
-      (start : StartHeld n left₀ due₀) where
-    pub playing-none : Playing limit left₀ due₀ 0 left₀ due₀ 0 0
-    unfolding after earliest firstFrom
+  module _ (tasks : TasksHeld periods costs n) (limit : ℕ) (short : limit ≤ 1000000) (first : Kept) (start : StartHeld n first) where
+    few : n ≤ 256
+    few = omega (arith, tasks .few)
+
+    pub playing-none : Playing limit first 0 first 256 0
+    unfolding after firstFrom
     playing-none =
         record {
           early = omega arith;
           holds =
               record {
-                leftIs = is-filled (engine 0 .left) n left₀ left₀ (start .leftLong) refl (start .noWork) (λ k h. refl);
-                dueIs = is-filled (engine 0 .due) n due₀ due₀ (start .dueLong) refl (start .allDue) (λ k h. refl);
-                readyIs = refl;
+                leftIs = is-filled (engine 0 .left) n (first .left) (first .left) (start .leftLong) refl (start .noWork) (λ p h. refl);
+                dueIs = is-filled (engine 0 .due) n (first .due) (first .due) (start .dueLong) refl (start .allDue) (λ p h. refl);
+                readyIs =
+                    is-filled (engine 0 .ready) (wordsFor n) (first .ready) (first .ready) (start .words) refl (λ w h. start .noBit w) (λ w h. refl);
+                nextsAre =
+                    is-filled (nextIn (engine 0 .due) n) (wordsFor n) (first .nexts) (first .nexts) (start .nextsLong) refl
+                    (λ w h. start .noNext w h ∙ sym (first-due (inWord n w) (omega arith))) (λ w h. refl);
                 nextIs = sym (first-due n (tasks .some));
               };
+          placeIs = sym (next-none (engine 0 .ready) 0 4 (λ w h. refl));
           busy = refl;
         }
-      where
-        first-due : (m : ℕ) → 1 ≤ m → earliest (λ p. 0) m ≡ 0
-        first-due zero h = absurd (omega arith)
-        first-due (suc m) h = omega arith
 
     -- so there is work in the tick
-    going : (t : ℕ) → firstFrom quiet 1 t ≡ 0 → ¬ (raisedAt t .ready ≡ 0)
-    going zero busy = start-ready (wordOf periods) (wordOf costs) n (tasks .few) (tasks .costLow) (tasks .some)
+    going : (t : ℕ) → firstFrom quiet 1 t ≡ 0 → ¬ (placeServed (wordOf periods) (wordOf costs) n t ≡ 256)
+    going zero busy = start-ready (wordOf periods) (wordOf costs) n few (tasks .costLow) (tasks .some)
     going (suc t) busy =
-        stay-ready (wordOf periods) (wordOf costs) n (tasks .few) (tasks .costLow) (suc t)
-        (λ z. clash (quiet (suc t)) (eq-eqb (engine (suc t) .ready) 0 z)
+        stay-ready (wordOf periods) (wordOf costs) n few (tasks .costLow) (suc t)
+        (λ z. clash (quiet (suc t)) (eq-eqb (nextPlace (engine (suc t) .ready)) 256 z)
         (missed quiet 1 (suc t) (omega arith) busy (suc t) (omega arith) (omega arith)))
 
-    module _ (t : ℕ) (left due : List ℕ) (ready next : ℕ) (play : Playing limit left₀ due₀ t left due ready next) where
-      pub left-long : length left ≡ length left₀
-      left-long = ap length (play .holds .leftIs) ∙ length-filled (engine t .left) n left₀ (start .leftLong)
+    module _ (t : ℕ) (k : Kept) (place next : ℕ) (play : Playing limit first t k place next) where
+      pub left-long : length (k .left) ≡ length (first .left)
+      left-long = ap length (play .holds .leftIs) ∙ length-filled (engine t .left) n (first .left) (start .leftLong)
 
-      pub due-long : length due ≡ length due₀
-      due-long = ap length (play .holds .dueIs) ∙ length-filled (engine t .due) n due₀ (start .dueLong)
+      pub due-long : length (k .due) ≡ length (first .due)
+      due-long = ap length (play .holds .dueIs) ∙ length-filled (engine t .due) n (first .due) (start .dueLong)
 
-      same : Same n (stateIn left due ready) (engine t)
+      pub ready-long : length (k .ready) ≡ length (first .ready)
+      ready-long = ap length (play .holds .readyIs) ∙ length-filled (engine t .ready) (wordsFor n) (first .ready) (start .words)
+
+      pub nexts-long : length (k .nexts) ≡ length (first .nexts)
+      nexts-long = ap length (play .holds .nextsAre) ∙ length-filled (nextIn (engine t .due) n) (wordsFor n) (first .nexts) (start .nextsLong)
+
+      -- the ready words, one by one: those of no task have no bit
+      ready-rest : (w : ℕ) → wordsFor n ≤ w → wordOf (k .ready) w ≡ 0
+      ready-rest w h =
+          ap (λ (words : List ℕ). wordOf words w) (play .holds .readyIs)
+          ∙ getD-filled-past (engine t .ready) (wordsFor n) w (first .ready) 0 h
+          ∙ start .noBit w
+
+      ready-same : (w : ℕ) → wordOf (k .ready) w ≡ engine t .ready w
+      ready-same w =
+          elim (decLt w (wordsFor n)) [
+            | yes h ↦ filled-word (engine t .ready) (wordsFor n) (first .ready) (k .ready) (play .holds .readyIs) w h
+            | no h ↦
+                ready-rest w (omega arith)
+                ∙ sym (words-empty (wordOf periods) (wordOf costs) n few (tasks .costLow) t w (omega arith))
+          ]
+
+      same : Same n (stateIn k) (engine t)
       same =
           record {
-            left = filled-word (engine t .left) n left₀ left (play .holds .leftIs);
-            due = filled-word (engine t .due) n due₀ due (play .holds .dueIs);
-            ready = play .holds .readyIs;
+            left = filled-word (engine t .left) n (first .left) (k .left) (play .holds .leftIs);
+            due = filled-word (engine t .due) n (first .due) (k .due) (play .holds .dueIs);
+            ready = fun-ext ready-same;
           }
 
-      releasedSame : Same n (releasedIn periods costs n t left due ready) (raisedAt t)
+      releasedSame : Same n (releasedIn periods costs n t k) (raisedAt t)
       releasedSame =
-          release-same (wordOf periods) (wordOf costs) (wordOf periods) (wordOf costs) n (λ p h. refl) (λ p h. refl) t
-          (stateIn left due ready) (engine t) same
+          release-same (wordOf periods) (wordOf costs) (wordOf periods) (wordOf costs) n (λ p h. refl) (λ p h. refl) t (stateIn k) (engine t) same
 
       nextOne : Next n (raisedAt t .left) (placeServed (wordOf periods) (wordOf costs) n t)
-      nextOne = the-next (wordOf periods) (wordOf costs) n (tasks .few) (tasks .costLow) t (going t (play .busy))
+      nextOne = the-next (wordOf periods) (wordOf costs) n few (tasks .costLow) t (going t (play .busy))
 
-      next-is : next ≡ earliest (wordOf due) n
-      next-is = play .holds .nextIs ∙ earliest-same (engine t .due) (wordOf due) n (λ p h. sym (same .due p h))
-
-      pub state-held : StateHeld n t left due next
+      pub state-held : StateHeld n t k
       state-held =
           record {
-            leftLong = omega (arith, left-long, start .leftLong);
-            dueLong = omega (arith, due-long, start .dueLong);
-            leftHigh = λ p h.
-                omega (
-                  arith,
-                  same .left p h,
-                  left-high (wordOf periods) (wordOf costs) n (tasks .costHigh) t p h,
-                  play .early,
-                );
-            dueHigh = λ p h.
-                let d = due-is (wordOf periods) (wordOf costs) n (tasks .periodLow) t p h in
-                omega (arith, same .due p h, d .3, tasks .periodHigh p h, play .early);
-            nextIs = next-is;
-            notPast =
-                rw next-is
-                (earliest-high (wordOf due) n t (omega (arith, play .early))
-                (λ p h. omega (arith, same .due p h, due-is (wordOf periods) (wordOf costs) n (tasks .periodLow) t p h .2)));
+            work =
+                record {
+                  leftLong = omega (arith, left-long, start .leftLong);
+                  dueLong = omega (arith, due-long, start .dueLong);
+                  leftHigh = λ p low h.
+                      omega (
+                        arith,
+                        same .left p h,
+                        left-high (wordOf periods) (wordOf costs) n (tasks .costHigh) t p h,
+                        play .early,
+                      );
+                  dueHigh = λ p low h.
+                      let d = due-is (wordOf periods) (wordOf costs) n (tasks .periodLow) t p h in
+                      omega (arith, same .due p h, d .3, tasks .periodHigh p h, play .early);
+                };
+            words = record { long = omega (arith, ready-long, start .words); rest = ready-rest };
+            nextsLong = omega (arith, nexts-long, start .nextsLong);
+            nextsAre = λ w h.
+                filled-word (nextIn (engine t .due) n) (wordsFor n) (first .nexts) (k .nexts) (play .holds .nextsAre) w h
+                ∙ earliest-same (behind (engine t .due) (64 * w)) (behind (wordOf (k .due)) (64 * w)) (inWord n w)
+                (λ q l. sym (same .due (64 * w + q) (omega arith)));
+            notPast = λ p h. omega (arith, same .due p h, due-is (wordOf periods) (wordOf costs) n (tasks .periodLow) t p h .2);
           }
 
-      pub has-next : HasNext n (releasedIn periods costs n t left due ready)
+      pub state-known : Known n k place next
+      state-known =
+          record {
+            placeIs = play .placeIs ∙ ap nextPlace (sym (same .ready));
+            nextIs = play .holds .nextIs ∙ earliest-same (engine t .due) (wordOf (k .due)) n (λ p h. sym (same .due p h));
+          }
+
+      pub has-next : HasNext n (releasedIn periods costs n t k)
       has-next =
           record {
             isPlace = rw (releasedSame .ready) (nextOne .isPlace);
@@ -125,11 +167,11 @@ module _ (periods costs : List ℕ) (n : ℕ) where
                 (nextOne .hasWork);
           }
 
-      module _ (place : ℕ) (is : place ≡ nextPlace (releasedIn periods costs n t left due ready .ready)) where
-        place-served : place ≡ placeServed (wordOf periods) (wordOf costs) n t
+      module _ (serves : ℕ) (is : serves ≡ nextPlace (releasedIn periods costs n t k .ready)) where
+        place-served : serves ≡ placeServed (wordOf periods) (wordOf costs) n t
         place-served = is ∙ ap nextPlace (releasedSame .ready)
 
-        place-fits : place < n
+        place-fits : serves < n
         place-fits = rw place-served (nextOne .isPlace)
 
       -- what is reported
@@ -137,135 +179,149 @@ module _ (periods costs : List ℕ) (n : ℕ) where
         abbrev told : ℕ → ℕ → ℕ
         told x = reported (wordOf periods) (wordOf costs) n (wordOf deadlines) x
 
-        module _ (place : ℕ) (is : place ≡ nextPlace (releasedIn periods costs n t left due ready .ready))
+        module _ (serves : ℕ) (is : serves ≡ nextPlace (releasedIn periods costs n t k .ready))
             (are : answers ≡ filled (told t) n old) where
-          inside : place < n
-          inside = place-fits place is
+          inside : serves < n
+          inside = place-fits serves is
 
           -- the work that is there, and what the tick leaves of it
           abbrev work : ℕ
-          work = releasedIn periods costs n t left due ready .left place
+          work = releasedIn periods costs n t k .left serves
 
-          work-is : work ≡ raisedAt t .left place
-          work-is = releasedSame .left place inside
+          work-is : work ≡ raisedAt t .left serves
+          work-is = releasedSame .left serves inside
 
           some : 1 ≤ work
-          some = rw (work-is, place-served place is) (nextOne .hasWork)
+          some = rw (work-is, place-served serves is) (nextOne .hasWork)
 
-          left-is : engine (suc t) .left place ≡ work - 1
+          left-is : engine (suc t) .left serves ≡ work - 1
           left-is =
-              left-step (wordOf periods) (wordOf costs) n t place
-              ∙ after-own (raisedAt t .left) (placeServed (wordOf periods) (wordOf costs) n t) place (place-served place is)
+              left-step (wordOf periods) (wordOf costs) n t serves
+              ∙ after-own (raisedAt t .left) (placeServed (wordOf periods) (wordOf costs) n t) serves (place-served serves is)
               ∙ ap (λ (x : ℕ). x - 1) (sym work-is)
 
-          before : wordOf answers place ≡ told t place
-          before = ap (λ (words : List ℕ). wordOf words place) are ∙ getD-filled (told t) n place old 0 inside
+          before : wordOf answers serves ≡ told t serves
+          before = ap (λ (words : List ℕ). wordOf words serves) are ∙ getD-filled (told t) n serves old 0 inside
 
           abbrev write : ℕ
-          write = reportedIn work t (wordOf deadlines place) (wordOf answers place)
+          write = reportedIn work t (wordOf deadlines serves) (wordOf answers serves)
 
-          written : write ≡ told (suc t) place
+          written : write ≡ told (suc t) serves
           written =
               elim (eqb? work 1) [
                 | inr w ↦
                     rw (w .0)
                     (before
-                    ∙ sym (report-on (wordOf periods) (wordOf costs) n (wordOf deadlines) t place
+                    ∙ sym (report-on (wordOf periods) (wordOf costs) n (wordOf deadlines) t serves
                     (λ z. w .1 (omega (arith, left-is, some, z)))))
                 | inl w ↦
-                    elim (ltb? t (wordOf deadlines place)) [
+                    elim (ltb? t (wordOf deadlines serves)) [
                       | inr l ↦
                           rw (w .0, l .0)
-                          (before ∙ sym (report-late (wordOf periods) (wordOf costs) n (wordOf deadlines) t place (l .1)))
+                          (before ∙ sym (report-late (wordOf periods) (wordOf costs) n (wordOf deadlines) t serves (l .1)))
                       | inl l ↦
                           rw (w .0, l .0, add-one)
-                          (sym (report-own (wordOf periods) (wordOf costs) n (wordOf deadlines) (tasks .costLow) (tasks .few)
-                          (due? .high) t place inside (going t (play .busy)) (place-served place is) (omega (arith, left-is, w .1)) (l .1)))
+                          (sym (report-own (wordOf periods) (wordOf costs) n (wordOf deadlines) (tasks .costLow) few
+                          (due? .high) t serves inside (going t (play .busy)) (place-served serves is) (omega (arith, left-is, w .1)) (l .1)))
                     ]
               ]
 
-          pub told-more : (u : ℕ) → u ≡ t + 1 → (now : List ℕ) → now ≡ set answers place write → now ≡ filled (told u) n old
+          pub told-more : (u : ℕ) → u ≡ t + 1 → (now : List ℕ) → now ≡ set answers serves write → now ≡ filled (told u) n old
           told-more u one now stored =
               rw (one, add-one)
               (stored
-              ∙ ap (λ (words : List ℕ). set words place write) are
-              ∙ filled-set (told t) (told (suc t)) n place write old room inside written
-              (λ k h other. sym (report-other (wordOf periods) (wordOf costs) n (wordOf deadlines) (tasks .costLow) t k h
-              (λ e. other (e ∙ sym (place-served place is))))))
+              ∙ ap (λ (words : List ℕ). set words serves write) are
+              ∙ filled-set (told t) (told (suc t)) n serves write old room inside written
+              (λ p h other. sym (report-other (wordOf periods) (wordOf costs) n (wordOf deadlines) (tasks .costLow) t p h
+              (λ e. other (e ∙ sym (place-served serves is))))))
 
-      module _ (leftNow dueNow : List ℕ) (rest again : ℕ)
-          (leaves : Leaves n left due (servedIn periods costs n t left due ready) leftNow dueNow rest again) where
-        servedSame : Same n (servedIn periods costs n t left due ready) (engine (suc t))
+      module _ (now : Kept) (following again : ℕ) (leaves : Leaves n k (servedIn periods costs n t k) now again)
+          (is : following ≡ nextPlace (servedIn periods costs n t k .ready)) where
+        servedSame : Same n (servedIn periods costs n t k) (engine (suc t))
         unfolding after
         servedSame =
-            serve-same n (releasedIn periods costs n t left due ready) (raisedAt t) releasedSame
-            (λ some. has-next .isPlace)
+            serve-same n (releasedIn periods costs n t k) (raisedAt t) releasedSame (λ some. has-next .isPlace)
+            (ap (λ (words : ℕ → ℕ). words 4) (releasedSame .ready)
+            ∙ tick-empty (wordOf periods) (wordOf costs) n few (tasks .costLow) t 4 (omega arith))
 
         -- the tick leaves the state after it in the slices that held the first one
-        leaves-next : Leaves n left₀ due₀ (engine (suc t)) leftNow dueNow rest again
+        leaves-next : Leaves n first (engine (suc t)) now again
         leaves-next =
             record {
               leftIs =
                   leaves .leftIs
-                  ∙ again-filled (engine t .left) (servedIn periods costs n t left due ready .left) (engine (suc t) .left) left₀ left
+                  ∙ again-filled (engine t .left) (servedIn periods costs n t k .left) (engine (suc t) .left) n (first .left) (k .left)
                   (start .leftLong) (play .holds .leftIs) (servedSame .left);
               dueIs =
                   leaves .dueIs
-                  ∙ again-filled (engine t .due) (servedIn periods costs n t left due ready .due) (engine (suc t) .due) due₀ due
+                  ∙ again-filled (engine t .due) (servedIn periods costs n t k .due) (engine (suc t) .due) n (first .due) (k .due)
                   (start .dueLong) (play .holds .dueIs) (servedSame .due);
-              readyIs = leaves .readyIs ∙ servedSame .ready;
+              readyIs =
+                  leaves .readyIs
+                  ∙ again-filled (engine t .ready) (servedIn periods costs n t k .ready) (engine (suc t) .ready) (wordsFor n) (first .ready) (k .ready)
+                  (start .words) (play .holds .readyIs) (λ w h. ap (λ (words : ℕ → ℕ). words w) (servedSame .ready));
+              nextsAre =
+                  leaves .nextsAre
+                  ∙ again-filled (nextIn (engine t .due) n) (nextIn (servedIn periods costs n t k .due) n) (nextIn (engine (suc t) .due) n)
+                  (wordsFor n) (first .nexts) (k .nexts) (start .nextsLong) (play .holds .nextsAre)
+                  (λ w h. earliest-same (behind (servedIn periods costs n t k .due) (64 * w)) (behind (engine (suc t) .due) (64 * w)) (inWord n w)
+                  (λ q l. servedSame .due (64 * w + q) (omega arith)));
               nextIs =
                   leaves .nextIs
-                  ∙ earliest-same (servedIn periods costs n t left due ready .due) (engine (suc t) .due) n (servedSame .due);
+                  ∙ earliest-same (servedIn periods costs n t k .due) (engine (suc t) .due) n (servedSame .due);
             }
           where
-            again-filled : (f g h : ℕ → ℕ) (old words : List ℕ) → n ≤ length old → words ≡ filled f n old →
-                ((p : ℕ) → p < n → g p ≡ h p) → filled g n words ≡ filled h n old
-            again-filled f g h old words room are alike =
-                ap (filled g n) are ∙ filled-again f g n old room ∙ filled-same g h n old alike
+            again-filled : (f g h : ℕ → ℕ) (m : ℕ) (old words : List ℕ) → m ≤ length old → words ≡ filled f m old →
+                ((p : ℕ) → p < m → g p ≡ h p) → filled g m words ≡ filled h m old
+            again-filled f g h m old words room are alike =
+                ap (filled g m) are ∙ filled-again f g m old room ∙ filled-same g h m old alike
+
+        follows : following ≡ nextPlace (engine (suc t) .ready)
+        follows = is ∙ ap nextPlace (servedSame .ready)
 
         -- where work is left, the play goes on
-        pub playing-more : (u : ℕ) → u ≡ t + 1 → t < limit → ¬ (rest ≡ 0) → Playing limit left₀ due₀ u leftNow dueNow rest again
+        pub playing-more : (u : ℕ) → u ≡ t + 1 → t < limit → ¬ (following ≡ 256) → Playing limit first u now following again
         playing-more u one more some =
             rw (one, add-one) (record {
               early = more;
               holds = leaves-next;
-              busy = search-on quiet t (ne-eqb (engine (suc t) .ready) 0 (λ z. some (leaves-next .readyIs ∙ z))) ∙ play .busy;
+              placeIs = follows;
+              busy = search-on quiet t (ne-eqb (nextPlace (engine (suc t) .ready)) 256 (λ z. some (follows ∙ z))) ∙ play .busy;
             })
 
         -- where none is left, it stops, and it is the first tick with that
-        pub stops-quiet : (u : ℕ) → u ≡ t + 1 → t < limit → rest ≡ 0 →
-            PlayLeaves periods costs n limit left₀ due₀ leftNow dueNow u rest again
+        pub stops-quiet : (u : ℕ) → u ≡ t + 1 → t < limit → following ≡ 256 → PlayLeaves periods costs n limit first now u following again
         unfolding ticksPlayed
         stops-quiet u one more all =
-            let first : firstFrom quiet 1 limit ≡ suc t = finds quiet 1 limit (suc t) (record {
-              passes = eq-eqb (engine (suc t) .ready) 0 (sym (leaves-next .readyIs) ∙ all);
+            let found : firstFrom quiet 1 limit ≡ suc t = finds quiet 1 limit (suc t) (record {
+              passes = eq-eqb (nextPlace (engine (suc t) .ready)) 256 (sym follows ∙ all);
               low = omega arith;
               high = omega arith;
               first = λ v low high. missed quiet 1 t (omega arith) (play .busy) v low (omega arith);
             }) in
-            rw (one, add-one) (record { ticksAre = rw (first, ne-eqb (suc t) 0 (omega arith)) refl; stateIs = leaves-next })
+            rw (one, add-one)
+            (record { ticksAre = rw (found, ne-eqb (suc t) 0 (omega arith)) refl; stateIs = leaves-next; placeIs = follows })
 
         -- and all is told
-        pub told-all : (deadlines old now : List ℕ) →
-            now ≡ filled (reported (wordOf periods) (wordOf costs) n (wordOf deadlines) (t + 1)) n old → t < limit → rest ≡ 0 →
-            now ≡ filled (played (wordOf periods) (wordOf costs) n (upTo limit (wordOf deadlines))) n old
-        told-all deadlines old now are more all =
+        pub told-all : (deadlines old reports : List ℕ) →
+            reports ≡ filled (reported (wordOf periods) (wordOf costs) n (wordOf deadlines) (t + 1)) n old → t < limit → following ≡ 256 →
+            reports ≡ filled (played (wordOf periods) (wordOf costs) n (upTo limit (wordOf deadlines))) n old
+        told-all deadlines old reports are more all =
             rw add-one at are
             ∙ filled-same (reported (wordOf periods) (wordOf costs) n (wordOf deadlines) (suc t))
             (played (wordOf periods) (wordOf costs) n (upTo limit (wordOf deadlines))) n old
-            (λ k h. report-quiet (wordOf periods) (wordOf costs) n (wordOf deadlines) (tasks .costLow) (tasks .few) (suc t) limit k h
-            (omega arith) more (sym (leaves-next .readyIs) ∙ all))
+            (λ p h. report-quiet (wordOf periods) (wordOf costs) n (wordOf deadlines) (tasks .costLow) few (suc t) limit p h
+            (omega arith) more (sym follows ∙ all))
 
       -- where the limit is reached, it stops too
       at-limit : limit ≤ t → t ≡ limit
       at-limit past = omega (arith, play .early)
 
-      pub stops-late : limit ≤ t → PlayLeaves periods costs n limit left₀ due₀ left due t ready next
+      pub stops-late : limit ≤ t → PlayLeaves periods costs n limit first k t place next
       unfolding ticksPlayed
       stops-late past =
-          let none : firstFrom quiet 1 limit ≡ 0 = ap (firstFrom quiet 1) (sym (at-limit past)) ∙ play .busy in
-          record { ticksAre = rw none (at-limit past); stateIs = play .holds }
+          let nothing : firstFrom quiet 1 limit ≡ 0 = ap (firstFrom quiet 1) (sym (at-limit past)) ∙ play .busy in
+          record { ticksAre = rw nothing (at-limit past); stateIs = play .holds; placeIs = play .placeIs }
 
       pub told-late : (deadlines old answers : List ℕ) → answers ≡ filled (reported (wordOf periods) (wordOf costs) n (wordOf deadlines) t) n old →
           limit ≤ t → answers ≡ filled (played (wordOf periods) (wordOf costs) n (upTo limit (wordOf deadlines))) n old
@@ -273,7 +329,7 @@ module _ (periods costs : List ℕ) (n : ℕ) where
           are
           ∙ filled-same (reported (wordOf periods) (wordOf costs) n (wordOf deadlines) t)
           (played (wordOf periods) (wordOf costs) n (upTo limit (wordOf deadlines))) n old
-          (λ k h. report-all (wordOf periods) (wordOf costs) n (wordOf deadlines) t limit k (at-limit past))
+          (λ p h. report-all (wordOf periods) (wordOf costs) n (wordOf deadlines) t limit p (at-limit past))
 
   -- before the first tick, in words that were set to 0
   pub told-none : (deadlines entry cleared : List ℕ) → n ≤ length entry → cleared ≡ filled none n entry →
@@ -297,11 +353,23 @@ pub told-long : (n : ℕ) (f : ℕ → ℕ) (cleared answers : List ℕ) → n �
 told-long n f cleared answers room are = ap length are ∙ length-filled f n cleared room
 
 -- slices of zeros hold what the engine starts with
-pub start-zeros : (n long : ℕ) → n ≤ long → StartHeld n (replicate long 0) (replicate long 0)
-start-zeros n long room =
-    record {
+pub start-zeros : (n long : ℕ) (left due ready nexts : List ℕ) → n ≤ long → n ≤ 256 → left ≡ replicate long 0 → due ≡ replicate long 0 →
+    ready ≡ replicate 4 0 → nexts ≡ replicate 4 0 → StartHeld n (kept left due ready nexts)
+start-zeros n long left due ready nexts room few lefts dues readies later =
+    rw (lefts, dues, readies, later) (record {
       leftLong = rw (length-replicate {A = ℕ} long 0) room;
       dueLong = rw (length-replicate {A = ℕ} long 0) room;
       noWork = λ p h. getD-replicate {A = ℕ} long p 0 0 (omega arith);
       allDue = λ p h. getD-replicate {A = ℕ} long p 0 0 (omega arith);
-    }
+      words = rw (length-replicate {A = ℕ} 4 0) (omega arith);
+      noBit = λ w. zero-word w;
+      nextsLong = rw (length-replicate {A = ℕ} 4 0) (omega arith);
+      noNext = λ w h. getD-replicate {A = ℕ} 4 w 0 0 (omega arith);
+    })
+  where
+    zero-word : (w : ℕ) → wordOf (replicate 4 0) w ≡ 0
+    zero-word zero = refl
+    zero-word (suc zero) = refl
+    zero-word (suc (suc zero)) = refl
+    zero-word (suc (suc (suc zero))) = refl
+    zero-word (suc (suc (suc (suc w)))) = refl

@@ -10,7 +10,7 @@ use borrow.Author.Tests.{eq-eqb, ne-eqb}
 use Rattle.model.specs.Search.{firstFrom}
 use Rattle.model.proofs.Tests.{clash}
 use Rattle.model.proofs.Search.{found, finds, none, missed}
-use Rattle.machine.specs.Machine.{after, placeServed, isDone, played, upTo}
+use Rattle.machine.specs.Machine.{after, nextPlace, placeServed, isDone, played, upTo}
 use Rattle.machine.proofs.MachineLaws.{inTick, after-other, none-released, stays-done, the-next, none-held}
 
 -- a search from 1, over more and more numbers
@@ -107,9 +107,9 @@ module _ (period cost : ℕ → ℕ) (n : ℕ) (deadline : ℕ → ℕ) where
           ]
         ]
 
-    module _ (few : n ≤ 32) where
+    module _ (few : n ≤ 256) where
       -- where no work is left, every place has the answer of a play up to any later limit
-      pub report-quiet : (t limit p : ℕ) → p < n → 1 ≤ t → t ≤ limit → after period cost n t .ready ≡ 0 →
+      pub report-quiet : (t limit p : ℕ) → p < n → 1 ≤ t → t ≤ limit → nextPlace (after period cost n t .ready) ≡ 256 →
           reported t p ≡ played period cost n (upTo limit deadline) p
       unfolding played
       report-quiet t limit p h low short e =
@@ -122,7 +122,7 @@ module _ (period cost : ℕ → ℕ) (n : ℕ) (deadline : ℕ → ℕ) where
 
       module _ (deadlineHigh : (p : ℕ) → p < n → deadline p ≤ period p) where
         -- a task that is served up to its deadline is served for its first job: this is the first tick after which it is done
-        pub report-own : (t p : ℕ) → p < n → ¬ (inTick period cost n t .ready ≡ 0) → p ≡ placeServed period cost n t →
+        pub report-own : (t p : ℕ) → p < n → ¬ (placeServed period cost n t ≡ 256) → p ≡ placeServed period cost n t →
             after period cost n (suc t) .left p ≡ 0 → t < deadline p → reported (suc t) p ≡ suc t
         report-own t p h some s e l =
             in-time (suc t) p (omega arith)

@@ -1,27 +1,23 @@
 -- What the small functions of a tick leave.
 -- Assumes nothing.
-use Prim.Native.Nat.{ℕ, _+_, _-_, _*_, _%_, _^_, _≤_, _<_, max}
+use Prim.Native.Nat.{ℕ, _+_, _-_, _/_, _≤_, _<_, max}
+use native.Mathlib.Decide.{ℕ-discrete}
 use native.Mathlib.Omega.{arith}
-use native.Mathlib.Nat.{add-zero, one-mul}
-use mathlib.Core.Path.{_≡_, sym, _∙_, ap}
+use native.Mathlib.Nat.{add-zero}
+use mathlib.Core.Path.{_≡_, refl, sym, _∙_, ap, subst}
 use mathlib.Core.List.{List}
 use lib.Bits.{bitOr, bitAnd}
-use lib.Dec.{eqb, ltb, lit<}
-use lib.ListN.{getD, set}
-use lib.Pow.{shl-exact}
-use lib.Seq.{set-getD}
+use lib.Dec.{eqb, ltb}
+use lib.ListN.{length, getD, set, length-set}
+use lib.Seq.{set-getD, getD-set-same, getD-set-other}
 use borrow.Author.Tests.{eq-eqb, ne-eqb, lt-ltb, le-ltb}
 use Rattle.model.specs.Choice.{pick, both, on}
-use Rattle.model.specs.Lists.{largestTo}
+use Rattle.model.specs.Lists.{largestTo, wordOf}
 use Rattle.model.proofs.Lists.{largest-none, largest-more}
-use Rattle.machine.specs.Machine.{mask, readyAfter, raisedBy}
-use Rattle.machine.specs.Slices.{reportedIn}
-
--- a shift of 1 makes the mask
-pub mask-is : (p : ℕ) → p < 32 → (1 * 2 ^ p) % 2 ^ 32 ≡ mask p
-mask-is p h =
-    let small : 1 < 2 ^ 1 = lit< tt in
-    shl-exact 1 p 32 small (omega arith) ∙ one-mul (2 ^ p)
+use Rattle.machine.specs.Machine.{mask, nextPlace, readyAfter, raisedBy}
+use Rattle.machine.specs.Slices.{WordsHeld, reportedIn}
+use Rattle.machine.proofs.WordLaws.{next-same}
+use Rattle.machine.proofs.MachineLaws.{other-word}
 
 -- a word that is not changed is stored as it is
 pub stays : (words : List ℕ) (p : ℕ) → words ≡ set words p (getD words p 0)
@@ -48,20 +44,60 @@ module _ (answers : List ℕ) (place at deadline : ℕ) where
   pub in-time : at < deadline → set answers place (at + 1) ≡ set answers place (pick (ltb at deadline) (at + 1) (getD answers place 0))
   in-time early = rw (lt-ltb at deadline early)
 
-module _ (word place ready at deadline : ℕ) (answers : List ℕ) where
-  -- where the last tick of work was served, the bit goes, and that is reported
-  pub last-served : (bit : ℕ) → 1 ≤ word → word - 1 ≡ 0 → bit ≡ mask place →
-      bitAnd ready (4294967295 - bit) ≡ readyAfter (eqb word 1) place ready
-  last-served bit some none e = rw (eq-eqb word 1 (omega arith), e)
+-- the bit of a place goes off its word with the last of its work
+module _ (word place : ℕ) (ready : List ℕ) where
+  abbrev own : ℕ
+  own = place / 64
 
+  abbrev after : ℕ → ℕ
+  after = readyAfter (eqb word 1) place (wordOf ready)
+
+  -- where work is left, all stays
+  pub words-stay : (word - 1 ≡ 0 → ⊥) → ready ≡ set ready own (after own)
+  words-stay some = rw (ne-eqb word 1 (λ e. some (omega arith))) (stays ready own)
+
+  pub place-stays : (word - 1 ≡ 0 → ⊥) → place ≡ nextPlace (wordOf ready) → place ≡ nextPlace after
+  place-stays some e = rw (ne-eqb word 1 (λ z. some (omega arith))) e
+
+  module _ (some : 1 ≤ word) (none : word - 1 ≡ 0) where
+    pub words-cleared : (now : List ℕ) → now ≡ set ready own (bitAnd (wordOf ready own) (18446744073709551615 - mask place)) →
+        now ≡ set ready own (after own)
+    words-cleared now e = rw (eq-eqb word 1 (omega arith), eq-eqb own own refl) e
+
+    -- word by word
+    words-after : (now : List ℕ) → own < length ready → now ≡ set ready own (after own) → (w : ℕ) → wordOf now w ≡ after w
+    words-after now inside e w =
+        elim (ℕ-discrete w own) [
+          | yes s ↦
+              subst (λ (v : ℕ). wordOf now v ≡ after v) (sym s)
+              (ap (λ (words : List ℕ). wordOf words own) e ∙ getD-set-same ready own (after own) 0 inside)
+          | no d ↦
+              ap (λ (words : List ℕ). wordOf words w) e
+              ∙ getD-set-other ready own w (after own) 0 d
+              ∙ sym (other-word (eqb word 1) place (wordOf ready) w d)
+        ]
+
+    pub place-after : (now : List ℕ) (r : ℕ) → own < length ready → now ≡ set ready own (after own) → r ≡ nextPlace (wordOf now) → r ≡ nextPlace after
+    place-after now r inside e is = is ∙ next-same (wordOf now) after (words-after now inside e)
+
+  -- words of no task stay without a bit
+  pub rest-stays : (now : List ℕ) (n : ℕ) → place < n → WordsHeld n ready →
+      now ≡ set ready own (bitAnd (wordOf ready own) (18446744073709551615 - mask place)) → WordsHeld n now
+  rest-stays now n inside held e =
+      record {
+        long = rw (e, length-set ready own (bitAnd (wordOf ready own) (18446744073709551615 - mask place))) (held .long);
+        rest = λ w h.
+            ap (λ (words : List ℕ). wordOf words w) e
+            ∙ getD-set-other ready own w (bitAnd (wordOf ready own) (18446744073709551615 - mask place)) 0 (omega arith)
+            ∙ held .rest w h;
+      }
+
+module _ (word place at deadline : ℕ) (answers : List ℕ) where
+  -- what is reported
   pub last-reported : (now : List ℕ) → 1 ≤ word → word - 1 ≡ 0 →
       now ≡ set answers place (pick (ltb at deadline) (at + 1) (getD answers place 0)) →
       now ≡ set answers place (reportedIn word at deadline (getD answers place 0))
   last-reported now some none e = rw (eq-eqb word 1 (omega arith)) e
-
-  -- else both stay
-  pub more-left : (word - 1 ≡ 0 → ⊥) → ready ≡ readyAfter (eqb word 1) place ready
-  more-left some = rw (ne-eqb word 1 (λ e. some (omega arith)))
 
   pub none-reported : (word - 1 ≡ 0 → ⊥) → answers ≡ set answers place (reportedIn word at deadline (getD answers place 0))
   none-reported some = rw (ne-eqb word 1 (λ e. some (omega arith))) (stays answers place)

@@ -1,9 +1,10 @@
--- `machine::serve` meets its contract: the bit goes with the last tick of work.
+-- `machine::serve` meets its contract: the bit goes with the last tick of work, and the next task is looked for.
 -- Assumes nothing.
-use borrow.Author.Needs.{needs}
-use mathlib.Core.Path.{refl}
+use native.Mathlib.Omega.{arith}
+use mathlib.Core.Path.{refl, _∙_}
 use Rattle.model.specs.Lists.{wordOf}
-use Rattle.machine.proofs.StepLaws.{last-served, last-reported, more-left, none-reported}
+use Rattle.machine.proofs.StepLaws.{words-stay, place-stays, words-cleared, place-after, rest-stays, last-reported, none-reported}
+use borrow.Author.Needs.{needs}
 use Rattle.machine.proofs.serve.Statement.{statement}
 use Rattle.machine.proofs.serve.Tie as tie
 
@@ -27,19 +28,30 @@ same-length c = search needs
 
 returns : tie.Need-returns
 returns c =
-    let a = c .before .before .before .before .before .args in (
+    let a = c .before .before .before .before .before .before .args in
+    let g = c .before .before .before .before .before .before .pre in (
       refl,
       (
-        more-left _ (a .place .0) (a .ready) (a .at .0) (wordOf (a .deadlines .now) (a .place .0)) (a .answers .now) (c .if1 .taken),
-        none-reported _ (a .place .0) (a .ready) (a .at .0) (wordOf (a .deadlines .now) (a .place .0)) (a .answers .now) (c .if1 .taken),
+        words-stay (wordOf (a .left .now) (a .place .0)) (a .place .0) (a .ready .now) (c .if1 .taken),
+        (
+          place-stays (wordOf (a .left .now) (a .place .0)) (a .place .0) (a .ready .now) (c .if1 .taken) (g .0 .3),
+          none-reported _ (a .place .0) (a .at .0) (wordOf (a .deadlines .now) (a .place .0)) (a .answers .now) (c .if1 .taken),
+        ),
       ),
     )
 
 report-requires : tie.Need-report-requires
 report-requires c κs = search needs
 
-mask-requires : tie.Need-mask-requires
-mask-requires c κs = search needs
+clear-requires : tie.Need-clear-requires
+clear-requires c κs = search needs
+
+next-place-requires : tie.Need-next-place-requires
+next-place-requires c κs =
+    let a = c .before .before .before .before .before .before .before .before .before .before .before .before .before .before .before .args in
+    let g = c .before .before .before .before .before .before .before .before .before .before .before .before .before .before .before .pre in
+    let words = rest-stays (wordOf (a .left .now) (a .place .0)) (a .place .0) (a .ready .now) _ (a .n) (g .1 .0 .0) (g .0 .2) (c .before .before .before .clear .ensures) in
+    (omega (arith, g .0 .0, g .0 .1), omega (arith, words .long, g .0 .1), λ w h. words .rest w (omega (arith, g .0 .1)))
 
 same-length-2 : tie.Need-same-length-2
 same-length-2 c = search needs
@@ -47,14 +59,21 @@ same-length-2 c = search needs
 same-length-3 : tie.Need-same-length-3
 same-length-3 c = search needs
 
+same-length-4 : tie.Need-same-length-4
+same-length-4 c = search needs
+
 returns-2 : tie.Need-returns-2
 returns-2 c =
-    let a = c .before .before .before .before .before .before .before .before .before .before .args in
-    let some = c .before .before .before .before .before .before .before .before .before .before .pre .0 .2 in (
+    let a = c .before .before .before .before .before .before .before .before .before .before .before .before .before .before .before .before .args in
+    let g = c .before .before .before .before .before .before .before .before .before .before .before .before .before .before .before .before .pre in
+    let cleared = words-cleared (wordOf (a .left .now) (a .place .0)) (a .place .0) (a .ready .now) (g .1 .0 .2) (c .before .before .before .before .before .before .before .before .before .before .if1 .left) _ (c .before .before .before .before .clear .ensures) in (
       refl,
       (
-        last-served _ (a .place .0) (a .ready) (a .at .0) (wordOf (a .deadlines .now) (a .place .0)) (a .answers .now) _ some (c .before .before .before .before .before .if1 .left) (c .mask .ensures),
-        last-reported _ (a .place .0) (a .ready) (a .at .0) (wordOf (a .deadlines .now) (a .place .0)) (a .answers .now) _ some (c .before .before .before .before .before .if1 .left) (c .before .before .before .report .ensures),
+        cleared,
+        (
+          place-after (wordOf (a .left .now) (a .place .0)) (a .place .0) (a .ready .now) (g .1 .0 .2) (c .before .before .before .before .before .before .before .before .before .before .if1 .left) _ _ (omega (arith, g .0 .2 .long, g .1 .0 .0)) cleared (c .next-place .ensures),
+          last-reported _ (a .place .0) (a .at .0) (wordOf (a .deadlines .now) (a .place .0)) (a .answers .now) _ (g .1 .0 .2) (c .before .before .before .before .before .before .before .before .before .before .if1 .left) (c .before .before .before .before .before .before .before .before .report .ensures),
+        ),
       ),
     )
 
@@ -70,7 +89,9 @@ serve-spec =
     same-length
     returns
     report-requires
-    mask-requires
+    clear-requires
+    next-place-requires
     same-length-2
     same-length-3
+    same-length-4
     returns-2)
