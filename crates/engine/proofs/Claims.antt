@@ -1,6 +1,7 @@
 -- What is claimed of the engine for the bytes of any table: its refusals, its ticks, and the equation's answers.
 -- Assumes nothing.
-use Prim.Native.Nat.{ℕ, zero, suc, _-_, _≤_, _<_}
+use Prim.Native.Nat.{ℕ, zero, suc, _-_, _/_, _%_, _≤_, _<_}
+use native.Mathlib.Decide.{decLt}
 use native.Mathlib.Omega.{arith}
 use mathlib.Core.Path.{_≡_, refl, sym, _∙_, ap}
 use mathlib.Core.Bool.{true, false}
@@ -16,7 +17,7 @@ use Rattle.model.specs.Tables.{Task, Falling}
 use Rattle.model.proofs.Any.{any-none}
 use Rattle.model.proofs.Loads.{falling-alone}
 use Rattle.model.proofs.Tests.{bool?, ltb?, clash, both-true, both-pass, both-fail}
-use Rattle.model.proofs.Lists.{largest-low, largest-high}
+use Rattle.model.proofs.Lists.{largest-low, largest-high, getD-filled-past}
 use Rattle.model.proofs.Filling.{filled-same, filled-word}
 use Rattle.model.proofs.First.{first-same}
 use Rattle.tables.specs.declared.Refusal.{Refusal}
@@ -31,6 +32,8 @@ use Rattle.tables.specs.Meaning.{TableRight, RoomFor}
 use Rattle.tables.proofs.LayoutLaws.{layout-sound, task-is, priority-at, tasks-count}
 use Rattle.tables.proofs.CheckLaws.{table-deserved, table-gives, table-right, table-clean}
 use Rattle.machine.specs.Machine.{after, bitOf}
+use Rattle.machine.specs.Slices.{TasksHeld, wordsFor}
+use Rattle.machine.proofs.MachineLaws.{words-empty}
 use Rattle.machine.proofs.SameLaws.{Same}
 use Rattle.runs.specs.Jobs.{NoDelay}
 use Rattle.runs.specs.Synchronous.{synchronous, workLeft}
@@ -48,7 +51,7 @@ use Rattle.engine.specs.Run.{engineAfter, engineAnswer, AsInRun}
 use Rattle.engine.specs.Outcome.{tiedAt, isPlain, playCheck, playVerdict, playWords}
 use Rattle.engine.specs.Statements.{Plain, PlayDeserved, PlayRefusals, TableEveryTick, CodeEveryTick, PlaysEquation, PlaysAsAnalysis, NoSecondPlay}
 use Rattle.engine.proofs.RunLaws.{everyTick, playedIsAnswer}
-use Rattle.engine.proofs.PlayedLaws.{table-decides, not-plain, plain-clean, right, same-state, tie-found}
+use Rattle.engine.proofs.PlayedLaws.{table-decides, not-plain, plain-clean, right, tasks-held, same-state, tie-found}
 
 -- where no task has the priority of the one before it, priorities strictly fall
 module _ (bytes : List ℕ) (right : TableRight bytes) where
@@ -198,8 +201,8 @@ playRefusals =
           (play-refused bytes (length answers) r (o .verdictIs));
     }
 
--- the tasks of a table that breaks no rule are at most 32
-few : (bytes : List ℕ) → TableRight bytes → length (tasksOf bytes) ≤ 32
+-- the tasks of a table that breaks no rule are at most 200
+few : (bytes : List ℕ) → TableRight bytes → length (tasksOf bytes) ≤ 200
 few bytes right =
     omega (arith, tasks-count bytes, right .head .counts taskCountField .high, layout-sound bytes (right .head .version) .few)
 
@@ -207,15 +210,31 @@ pub tableEveryTick : TableEveryTick
 tableEveryTick bytes right falling = everyTick (tasksOf bytes) (tasks-fit bytes (right .records)) falling (few bytes right)
 
 pub codeEveryTick : CodeEveryTick
-codeEveryTick bytes periods costs deadlines latest held falling limit left due leftNow dueNow t ready next leaves ticks s law h =
+codeEveryTick bytes periods costs deadlines latest held falling limit before now t place next start leaves ticks s law h =
     record {
       work = λ p isTask.
           let inside : p < taskCount bytes = omega (arith, tasks-count bytes) in
-          filled-word (after (wordOf periods) (wordOf costs) (taskCount bytes) t .left) (taskCount bytes) left leftNow (leaves .stateIs .leftIs) p inside
+          filled-word (after (wordOf periods) (wordOf costs) (taskCount bytes) t .left) (taskCount bytes) (before .left) (now .left) (leaves .stateIs .leftIs) p inside
           ∙ same .left p inside ∙ inRun .work p isTask;
-      bits = λ p. ap (λ (word : ℕ). bitOf word p) (leaves .stateIs .readyIs ∙ same .ready) ∙ inRun .ready p ∙ bit p;
+      bits = λ p. ap (λ (word : ℕ). bitOf word (p % 64)) (word-is (p / 64) ∙ ap (λ (words : ℕ → ℕ). words (p / 64)) (same .ready)) ∙ inRun .ready p ∙ bit p;
     }
   where
+    tasks : TasksHeld periods costs (taskCount bytes)
+    tasks = tasks-held bytes periods costs deadlines latest held (taskCount bytes) refl
+
+    word-is : (w : ℕ) → wordOf (now .ready) w ≡ after (wordOf periods) (wordOf costs) (taskCount bytes) t .ready w
+    word-is w =
+        elim (decLt w (wordsFor (taskCount bytes))) [
+          | yes l ↦
+              filled-word (after (wordOf periods) (wordOf costs) (taskCount bytes) t .ready) (wordsFor (taskCount bytes)) (before .ready) (now .ready)
+              (leaves .stateIs .readyIs) w l
+          | no l ↦
+              ap (λ (words : List ℕ). wordOf words w) (leaves .stateIs .readyIs)
+              ∙ getD-filled-past (after (wordOf periods) (wordOf costs) (taskCount bytes) t .ready) (wordsFor (taskCount bytes)) w (before .ready) 0 (omega arith)
+              ∙ start .noBit w
+              ∙ sym (words-empty (wordOf periods) (wordOf costs) (taskCount bytes) (omega (arith, tasks .few)) (tasks .costLow) t w (omega arith))
+        ]
+
     same : Same (taskCount bytes) (after (wordOf periods) (wordOf costs) (taskCount bytes) t) (engineAfter (tasksOf bytes) t)
     same = same-state bytes periods costs deadlines latest held (taskCount bytes) refl t
 

@@ -134,7 +134,7 @@ module _ (bytes periods costs deadlines latest : List ℕ) (held : NumbersHeld b
         subst (λ (m : ℕ). Same n (after (wordOf periods) (wordOf costs) n t) (after (periodsOf (tasksOf bytes)) (costsOf (tasksOf bytes)) m t))
         (counted ∙ sym (tasks-count bytes))
         (after-same (wordOf periods) (wordOf costs) (periodsOf (tasksOf bytes)) (costsOf (tasksOf bytes)) n same-period same-cost
-        (tasks-held .few) (tasks-held .costLow) t)
+        (omega (arith, tasks-held .few)) (tasks-held .costLow) t)
 
     -- the play of the columns up to the latest deadline is the play of the table's tasks
     same-answer : (limit i : ℕ) → limit ≡ largestTo (wordOf deadlines) n → i < n →
@@ -142,7 +142,7 @@ module _ (bytes periods costs deadlines latest : List ℕ) (held : NumbersHeld b
     same-answer limit i e h =
         let within : upTo limit (wordOf deadlines) i ≡ wordOf deadlines i = omega (arith, e, largest-low (wordOf deadlines) n i h) in
         played-same (wordOf periods) (wordOf costs) (periodsOf (tasksOf bytes)) (costsOf (tasksOf bytes)) n same-period same-cost
-        (tasks-held .few) (tasks-held .costLow) (upTo limit (wordOf deadlines)) (deadlinesOf (tasksOf bytes)) i h
+        (omega (arith, tasks-held .few)) (tasks-held .costLow) (upTo limit (wordOf deadlines)) (deadlinesOf (tasksOf bytes)) i h
         (within ∙ held .deadlinesHeld .read i (inside h) ∙ sym (ap (λ (t : Task). t .deadline) (task-is bytes i (inside h))))
         ∙ ap (λ (m : ℕ). played (periodsOf (tasksOf bytes)) (costsOf (tasksOf bytes)) m (deadlinesOf (tasksOf bytes)) i)
         (counted ∙ sym (tasks-count bytes))

@@ -74,7 +74,7 @@ module _ (tasks : List Task) (fit : TasksFit tasks) where
       ap (λ (due : ℕ). on (eqb due t) (taskOf tasks p .cost)) (next-release t p isTask)
       ∙ begins t (taskOf tasks p .period) (taskOf tasks p .cost) (fit .periodLow p isTask)
 
-  module _ (falling : Falling tasks) (few : length tasks ≤ 32) (ticks : ℕ) (s : Schedule) (law : LegalSchedule tasks ticks (synchronous tasks ticks) s) where
+  module _ (falling : Falling tasks) (few : length tasks ≤ 200) (ticks : ℕ) (s : Schedule) (law : LegalSchedule tasks ticks (synchronous tasks ticks) s) where
     abbrev jobs : List Job
     jobs = synchronous tasks ticks
 
@@ -96,14 +96,14 @@ module _ (tasks : List Task) (fit : TasksFit tasks) where
       serves-job j e =
           let found = work-serves tasks fit falling ticks s law t j inRun e in
           let place : ℕ = jobOf jobs j .place in
-          next-is (periodsOf tasks) (costsOf tasks) (length tasks) few (fit .costLow) t place (found .0)
+          next-is (periodsOf tasks) (costsOf tasks) (length tasks) (omega (arith, few)) (fit .costLow) t place (found .0)
           (omega (arith, same-released place (found .0), found .1))
           (λ p l. same-released p (omega (arith, found .0)) ∙ found .2 p l)
 
-      serves-none : s t ≡ idle → engineServes tasks t ≡ 32
+      serves-none : s t ≡ idle → engineServes tasks t ≡ 256
       serves-none e =
-          next-none (periodsOf tasks) (costsOf tasks) (length tasks) few (fit .costLow) t
-          (λ p isTask. same-released p isTask ∙ work-idle tasks fit ticks s law t inRun e p isTask) .1
+          next-none (periodsOf tasks) (costsOf tasks) (length tasks) (omega (arith, few)) (fit .costLow) t
+          (λ p isTask. same-released p isTask ∙ work-idle tasks fit ticks s law t inRun e p isTask)
 
       -- so it takes as much from each place
       same-served : (p : ℕ) → p < length tasks → (v : Service) → s t ≡ v → on (eqb p (engineServes tasks t)) 1 ≡ servedPlace jobs v p
@@ -175,7 +175,7 @@ everyTick tasks fit falling few ticks s law t h =
     let same = same-work tasks fit falling few ticks s law t h in
     record {
       work = same;
-      ready = ready-bits (periodsOf tasks) (costsOf tasks) (length tasks) few (fit .costLow) t;
+      ready = ready-bits (periodsOf tasks) (costsOf tasks) (length tasks) (omega (arith, few)) (fit .costLow) t;
       served = λ j inRun. serves-job tasks fit falling few ticks s law t inRun same j;
       none = λ inRun. serves-none tasks fit falling few ticks s law t inRun same;
     }
@@ -186,7 +186,7 @@ firstJobDone tasks fit falling few ticks s law i j isTask first x low short h =
     let done = first-done tasks fit ticks s law i j x isTask first low (omega (arith, fit .deadlineHigh i isTask)) h in
     record { finished = λ e. done .0 (sym same ∙ e); noWork = λ finished. same ∙ done .1 finished }
 
-module _ (tasks : List Task) (fit : TasksFit tasks) (falling : Falling tasks) (calm : NoDelay tasks) (few : length tasks ≤ 32) (i : ℕ) (isTask : i < length tasks) where
+module _ (tasks : List Task) (fit : TasksFit tasks) (falling : Falling tasks) (calm : NoDelay tasks) (few : length tasks ≤ 200) (i : ℕ) (isTask : i < length tasks) where
   -- its deadline, its answer, and the test that the engine searches by
   abbrev deadline : ℕ
   deadline = taskOf tasks i .deadline

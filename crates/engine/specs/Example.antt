@@ -12,11 +12,11 @@ use Rattle.engine.specs.Run.{engineAfter, engineServes, engineTicks, eng
 abbrev pub fifth : List Task
 fifth = three .tasks
 
--- the ready word after t ticks
+-- the first ready word after t ticks
 abbrev pub readyAfterTicks : ℕ → ℕ
-readyAfterTicks t = engineAfter fifth t .ready
+readyAfterTicks t = engineAfter fifth t .ready 0
 
--- The places that ticks 0 to 9 serve; the ready word before the first and after each of them (bit 0 for the first task); the number of
+-- The places that ticks 0 to 9 serve; the first ready word before the first and after each of them (bit 0 for the first task); the number of
 -- ticks that are played where at most 0 to 12 are; the answers.
 pub record FifthPlayed : Type 0 where
   pub places : tabulate (engineServes fifth) 10 ≡ 0 ∷ 1 ∷ 1 ∷ 2 ∷ 0 ∷ 2 ∷ 1 ∷ 1 ∷ 0 ∷ 2 ∷ []

@@ -13,7 +13,7 @@ use Rattle.tables.specs.declared.Refusal.the-variants.{NotPlayable}
 use Rattle.tables.specs.Layout.{taskCount, rowCount, tasksOf, tableOf, priorityIn, earliestIn, latestIn}
 use Rattle.tables.specs.Meaning.{TableRight, RoomFor}
 use Rattle.tables.specs.Deserved.{Deserved}
-use Rattle.machine.specs.Slices.{PlayLeaves}
+use Rattle.machine.specs.Slices.{Kept, StartHeld, PlayLeaves}
 use Rattle.runs.specs.Schedule.{Schedule, LegalSchedule}
 use Rattle.runs.specs.Synchronous.{synchronous}
 use Rattle.equation.specs.declared.Start.{Start}
@@ -68,16 +68,16 @@ TableEveryTick =
     (bytes : List ℕ) → TableRight bytes → Falling (tasksOf bytes) → (ticks : ℕ) (s : Schedule) →
     LegalSchedule (tasksOf bytes) ticks (synchronous (tasksOf bytes) ticks) s → (t : ℕ) → t ≤ ticks → AsInRun (tasksOf bytes) ticks s t
 
--- and the code does: where the columns hold the numbers of a table, what `play_all` leaves after the ticks that it played, as its
--- contract says (`PlayLeaves`), is what that run has after as many. (With a smaller limit it stops at any tick that it
+-- and the code does: where the columns hold the numbers of a table, what `play_all` leaves in the slices that it is lent after the ticks that it
+-- played, as its contract says (`StartHeld`, `PlayLeaves`), is what that run has after as many. (With a smaller limit it stops at any tick that it
 -- plays: `EveryLimit`.)
 abbrev pub CodeEveryTick : Type 0
 CodeEveryTick =
     (bytes periods costs deadlines latest : List ℕ) → NumbersHeld bytes periods costs deadlines latest → Falling (tasksOf bytes) →
-    (limit : ℕ) (left due leftNow dueNow : List ℕ) (t ready next : ℕ) →
-    PlayLeaves periods costs (taskCount bytes) limit left due leftNow dueNow t ready next →
+    (limit : ℕ) (before now : Kept) (t place next : ℕ) → StartHeld (taskCount bytes) before →
+    PlayLeaves periods costs (taskCount bytes) limit before now t place next →
     (ticks : ℕ) (s : Schedule) → LegalSchedule (tasksOf bytes) ticks (synchronous (tasksOf bytes) ticks) s → t ≤ ticks →
-    HeldAsInRun (tasksOf bytes) ticks s t leftNow ready
+    HeldAsInRun (tasksOf bytes) ticks s t (now .left) (now .ready)
 
 -- the words and the verdict that the equation gives, by the definitions of demand 2
 pub record AsEquation (bytes answers : List ℕ) (verdict : Verdict) (left : List ℕ) : Type 0 where

@@ -9,7 +9,7 @@ use mathlib.Core.Bool.{Bool}
 use mathlib.Core.List.{List}
 use mathlib.Core.Logic.{inl, inr}
 use lib.Dec.{eqb}
-use lib.ListN.{length, set, replicate, length-replicate, getD-replicate}
+use lib.ListN.{length, set, replicate, length-replicate}
 use borrow.Author.Tests.{eq-eqb, ne-eqb}
 use Rattle.model.specs.Lists.{filled, wordOf}
 use Rattle.model.specs.Search.{firstFrom}
@@ -353,19 +353,19 @@ pub told-long : (n : ℕ) (f : ℕ → ℕ) (cleared answers : List ℕ) → n �
 told-long n f cleared answers room are = ap length are ∙ length-filled f n cleared room
 
 -- slices of zeros hold what the engine starts with
-pub start-zeros : (n long : ℕ) (left due ready nexts : List ℕ) → n ≤ long → n ≤ 256 → left ≡ replicate long 0 → due ≡ replicate long 0 →
-    ready ≡ replicate 4 0 → nexts ≡ replicate 4 0 → StartHeld n (kept left due ready nexts)
-start-zeros n long left due ready nexts room few lefts dues readies later =
-    rw (lefts, dues, readies, later) (record {
-      leftLong = rw (length-replicate {A = ℕ} long 0) room;
-      dueLong = rw (length-replicate {A = ℕ} long 0) room;
-      noWork = λ p h. getD-replicate {A = ℕ} long p 0 0 (omega arith);
-      allDue = λ p h. getD-replicate {A = ℕ} long p 0 0 (omega arith);
+pub start-held : (n : ℕ) (left due : List ℕ) → n ≤ 256 → n ≤ length left → n ≤ length due → ((p : ℕ) → p < n → wordOf left p ≡ 0) →
+    ((p : ℕ) → p < n → wordOf due p ≡ 0) → StartHeld n (kept left due (replicate 4 0) (replicate 4 0))
+start-held n left due few leftLong dueLong noWork allDue =
+    record {
+      leftLong = leftLong;
+      dueLong = dueLong;
+      noWork = noWork;
+      allDue = allDue;
       words = rw (length-replicate {A = ℕ} 4 0) (omega arith);
-      noBit = λ w. zero-word w;
+      noBit = zero-word;
       nextsLong = rw (length-replicate {A = ℕ} 4 0) (omega arith);
-      noNext = λ w h. getD-replicate {A = ℕ} 4 w 0 0 (omega arith);
-    })
+      noNext = λ w h. zero-word w;
+    }
   where
     zero-word : (w : ℕ) → wordOf (replicate 4 0) w ≡ 0
     zero-word zero = refl
