@@ -7,3 +7,4 @@ pub mod StepLaws
 pub mod ReleaseLaws
 pub mod ServeLaws
 pub mod PlayLaws
+pub mod ExampleLaws
