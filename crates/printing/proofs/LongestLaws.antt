@@ -1,5 +1,5 @@
 -- The longest text, with any word in front of the lines' last number; and that of the first analysis: what it leaves is small enough for
--- the lines, and a verdict's line is short.
+-- the lines, and a verdict's line is short. The words that are lent are enough for every table.
 -- Assumes nothing.
 use Prim.Native.Nat.{ℕ, _+_, _*_, _≤_, _<_}
 use native.Mathlib.Omega.{arith}
@@ -37,7 +37,7 @@ use Rattle.response.proofs.Demands.{demand1, demand2}
 use Rattle.response.proofs.PlaceLaws.{verdict-place}
 use Rattle.printing.specs.Appended.{Appended}
 use Rattle.printing.specs.Text.{bytesOf, textOf, decimalOf, lineWithNumber, refusedLine, deadlineShown, taskLines, tasksText}
-use Rattle.printing.specs.Answered.{zeros, answerText}
+use Rattle.printing.specs.Answered.{zeros, RoomForAll, answerText}
 use Rattle.printing.specs.Longest.{longest, TextFits, LongestReached, Whole, TextWhole}
 use Rattle.printing.proofs.AppendLaws.{text-is, behind, part-length}
 use Rattle.printing.proofs.LengthLaws.{digitCount, few-digits, seven-digits, line-long, place-line-long, refusal-long, Small, lineRoom, lines-long}
@@ -98,6 +98,10 @@ module _ (span : ℕ) (bytes : List ℕ) (right : TableRightSpanning span bytes)
             (λ i h. omega (arith, deadline-shown bytes i, deadline-small i h)),
         mul-le-mul {n₁ = n} {m₁ = lineRoom word width} {n₂ = 200} {m₂ = lineRoom word width} few-tasks (omega arith),
       )
+
+pub roomForAll : RoomForAll
+roomForAll span bytes right =
+    record { answersLong = omega (arith, few-tasks span bytes right); roundsLong = omega (arith, few-tasks span bytes right) }
 
 -- no start is below the task's own cost
 start-low : (start : Start) (base urgent : ℕ) → base ≤ firstTerm start base urgent

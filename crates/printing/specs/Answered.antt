@@ -2,7 +2,8 @@
 -- Assumes nothing.
 use Prim.Native.Nat.{ℕ}
 use mathlib.Core.List.{List}
-use lib.ListN.{replicate}
+use lib.ListN.{length, replicate}
+use Rattle.tables.specs.Meaning.{TableRightSpanning, RoomFor}
 use Rattle.equation.specs.declared.Start.{Start}
 use Rattle.response.specs.Outcome.{verdictOf, answersAfter, roundsAfter}
 use Rattle.printing.specs.Text.{textOf}
@@ -10,6 +11,11 @@ use Rattle.printing.specs.Text.{textOf}
 -- what each of both slices holds before the call: a word for every task of the longest table
 abbrev pub zeros : List ℕ
 zeros = replicate 200 0
+
+-- They are enough for every table within the rules, however many periods a deadline may span: no program refuses one for want of room. The
+-- proof is in proofs/LongestLaws.antt.
+abbrev pub RoomForAll : Type 0
+RoomForAll = (span : ℕ) (bytes : List ℕ) → TableRightSpanning span bytes → RoomFor bytes (length zeros) (length zeros)
 
 -- what `analyse_from` answers and leaves, as text
 unfoldable pub answerText : Start → List ℕ → List ℕ
