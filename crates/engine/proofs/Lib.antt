@@ -2,3 +2,4 @@ pub mod RunLaws
 pub mod PlayedLaws
 pub mod Claims
 pub mod ExampleLaws
+pub mod Versions

@@ -1,5 +1,6 @@
--- What is claimed of the engine for the bytes of any table (SPECIFICATION 9; document 02, L1 and L6), as named statements about what `play`
--- answers and leaves (`Played`, its contract). The proofs are in proofs/Claims.antt.
+-- What is claimed of the engine for the bytes of any table (SPECIFICATION 9; document 02, L1, L6 and L9), as named statements about what `play`
+-- answers and leaves (`Played`, its contract). The proofs are in proofs/Claims.antt, that of the last one in
+-- proofs/Versions.antt.
 -- Assumes nothing.
 use Prim.Native.Nat.{ℕ, _≤_, _<_}
 use mathlib.Core.Path.{_≡_}
@@ -10,7 +11,7 @@ use Rattle.model.specs.Lists.{filled}
 use Rattle.model.specs.Tables.{Falling}
 use Rattle.tables.specs.declared.Refusal.{Refusal}
 use Rattle.tables.specs.declared.Refusal.the-variants.{NotPlayable}
-use Rattle.tables.specs.Layout.{taskCount, rowCount, tasksOf, tableOf, priorityIn, earliestIn, latestIn}
+use Rattle.tables.specs.Layout.{versionOf, taskCount, rowCount, tasksOf, tableOf, priorityIn, earliestIn, latestIn}
 use Rattle.tables.specs.Meaning.{TableRight, RoomFor}
 use Rattle.tables.specs.Deserved.{Deserved}
 use Rattle.machine.specs.Slices.{Kept, StartHeld, PlayLeaves}
@@ -22,9 +23,10 @@ use Rattle.answering.specs.declared.Verdict.the-variants.{Refused}
 use Rattle.response.specs.Analysis.{answerOf}
 use Rattle.answering.specs.Results.{resultOf}
 use Rattle.response.specs.Outcome.{Call, Left, Outcome}
+use Rattle.response.specs.Versions.{asThree}
 use Rattle.engine.specs.Run.{AsInRun, HeldAsInRun}
 use Rattle.engine.specs.Held.{NumbersHeld}
-use Rattle.engine.specs.Outcome.{Played}
+use Rattle.engine.specs.Outcome.{playVerdict, playWords, Played}
 
 -- "Any nonzero jitter or delay, or any row" is what a table must not have; a constant delay is one too. Nor a tie: "L1's engine refuses ties
 -- with 9" (document 02, L6).
@@ -103,3 +105,11 @@ abbrev pub NoSecondPlay : Type 0
 NoSecondPlay =
     (bytes answers left leftOther : List ℕ) (verdict other : Verdict) →
     Played bytes answers verdict left → Played bytes answers other leftOther → (verdict ≡ other) × (left ≡ leftOther)
+
+-- "Version 3 has version 2's layout" (SPECIFICATION 13.9; document 02, L9): with at most 32 tasks the same bytes in either version, right
+-- or wrong, get the same verdict and the same words.
+pub record PlayInVersionThree : Type 0 where
+  pub sameVerdict : (bytes : List ℕ) → versionOf bytes ≡ 2 → taskCount bytes ≤ 32 →
+      (answers : ℕ) → playVerdict (asThree bytes) answers ≡ playVerdict bytes answers
+  pub sameWords : (bytes : List ℕ) → versionOf bytes ≡ 2 → taskCount bytes ≤ 32 →
+      (answers : List ℕ) → playWords (asThree bytes) answers ≡ playWords bytes answers
