@@ -34,11 +34,27 @@ static int is_divide(const uint8_t *at, size_t size)
     return i + 1 < size && (at[i] & 0xFE) == 0xF6 && (at[i + 1] & 0x30) == 0x30;
 }
 
+/* A string instruction that repeats: F2 or F3 among the prefixes, then 6C to 6F, A4 to A7 or AA to
+ * AF. The C library clears more than 2,048 bytes by one such instruction. */
+static int repeats(const uint8_t *at, size_t size)
+{
+    size_t i = 0;
+    int found = 0;
+
+    for (; i < size && (at[i] == 0x66 || (at[i] & 0xFE) == 0xF2 || (at[i] & 0xF0) == 0x40); i++)
+        found |= (at[i] & 0xFE) == 0xF2;
+    return found && i < size &&
+           ((at[i] & 0xFC) == 0x6C || (at[i] & 0xFC) == 0xA4 || (at[i] >= 0xAA && at[i] <= 0xAF));
+}
+
 /* Called for each block of code when it is first met; the block's counts are added each time
- * that it is run. */
+ * that it is run. An instruction that repeats begins a block of its own each time that it goes on:
+ * it counts once, as a processor's own counter has it, and not once for each byte. */
 static void translated(qemu_plugin_id_t id, struct qemu_plugin_tb *block)
 {
     size_t n = qemu_plugin_tb_n_insns(block), found = 0;
+    struct qemu_plugin_insn *first = qemu_plugin_tb_get_insn(block, 0);
+    size_t again = repeats(qemu_plugin_insn_data(first), qemu_plugin_insn_size(first));
 
     (void)id;
     for (size_t i = 0; i < n; i++) {
@@ -46,7 +62,8 @@ static void translated(qemu_plugin_id_t id, struct qemu_plugin_tb *block)
 
         found += is_divide(qemu_plugin_insn_data(one), qemu_plugin_insn_size(one));
     }
-    qemu_plugin_register_vcpu_tb_exec_inline(block, QEMU_PLUGIN_INLINE_ADD_U64, &instructions, n);
+    qemu_plugin_register_vcpu_tb_exec_inline(block, QEMU_PLUGIN_INLINE_ADD_U64, &instructions,
+                                             n - again);
     if (found)
         qemu_plugin_register_vcpu_tb_exec_inline(block, QEMU_PLUGIN_INLINE_ADD_U64, &divides,
                                                  found);

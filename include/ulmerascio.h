@@ -13,7 +13,8 @@
  * ulmerascio_analyse is in libfirmware.a, ulmerascio_analyse_from_own_cost in libmarking.a,
  * ulmerascio_play in libplayer.a, ulmerascio_check_claims in libclaims.a and
  * ulmerascio_analyse_past_period in liboverlaps.a, each made by "rt staticlib" and the library's
- * name; none of them needs another, and a program may link them all.
+ * name; none of them needs another, and a program may link them all. A call needs up to 8 KB of
+ * stack.
  */
 #ifndef ULMERASCIO_H
 #define ULMERASCIO_H
