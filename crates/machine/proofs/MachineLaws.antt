@@ -1,6 +1,6 @@
 -- What the engine holds: its ready words say of each task whether work is left for it, and their trailing zeros find the first of those.
 -- Assumes nothing.
-use Prim.Native.Nat.{ℕ, zero, suc, _+_, _-_, _*_, _/_, _%_, _^_, _≤_, _<_, min, max}
+use Prim.Native.Nat.{ℕ, zero, suc, _+_, _-_, _*_, _/_, _%_, _^_, _≤_, _<_, max}
 use native.Mathlib.Nat.{add-zero, zero-mul, suc-mul, lt-of-le-of-lt}
 use native.Mathlib.Decide.{ℕ-discrete, decLe}
 use native.Mathlib.Omega.{arith}
@@ -13,7 +13,7 @@ use lib.Bits.{bitAnd, or-lt, and-le-l}
 use Rattle.model.specs.Choice.{both, on}
 use Rattle.model.proofs.Tests.{bool?, ltb?, eqb?, on-high, both-fail}
 use Rattle.machine.specs.Machine.{State, started, bitOf, bitAt, mask, isDue, leftWith, raised, inWord, released, nextPlace, leftAfter, readyAfter, after, placeServed}
-use Rattle.machine.proofs.BitLaws.{high-bits, no-bits, single-small, set-own, set-other, clear-own, clear-other}
+use Rattle.machine.proofs.BitLaws.{no-bits, single-small, set-own, set-other, clear-own, clear-other}
 use Rattle.machine.proofs.WordLaws.{bit-of-zero, Lowest, lowest-next}
 
 -- a bit is set for each of the n places where work is left, and for no other
@@ -109,42 +109,39 @@ module _ (n : ℕ) (few : n ≤ 256) (left : ℕ → ℕ) (ready : ℕ → ℕ) 
         | no d ↦ let next = next-found d in absurd (omega (arith, next .hasWork, e (nextPlace ready) (next .isPlace)))
       ]
 
-  -- nor is there one in a word of no task
-  empty-word : (w : ℕ) → n ≤ 64 * w → ready w ≡ 0
-  empty-word w h =
+  -- a word none of whose bits is set is 0
+  no-word : (w : ℕ) → ((b : ℕ) → b < 64 → bitAt ready (64 * w + b) ≡ 0) → ready w ≡ 0
+  no-word w none =
       no-bits 64 (ready w) (mirrors .small w) (λ b l.
       let at-word : (64 * w + b) / 64 ≡ w = omega arith in
       let at-bit : (64 * w + b) % 64 ≡ b = omega arith in
-      rw (at-word, at-bit) at (mirrors .bits (64 * w + b)) ∙ work-past n (64 * w + b) (left (64 * w + b)) (omega arith))
+      rw (at-word, at-bit) at (none b l))
+
+  -- so is a word of no task
+  empty-word : (w : ℕ) → n ≤ 64 * w → ready w ≡ 0
+  empty-word w h = no-word w (λ b l. mirrors .bits (64 * w + b) ∙ work-past n (64 * w + b) (left (64 * w + b)) (omega arith))
 
   -- a tick's service keeps words and work together: where there is nothing to serve,
   served-none : (last : Bool) (q : ℕ) → nextPlace ready ≡ 256 → n ≤ q → Mirrors n (leftAfter left q) (readyAfter last q ready)
   served-none last q e past =
       record {
         bits = λ p. elim (decLe n p) [
-          | yes h ↦ unchanged p (omega arith) ∙ sym (work-past n p (leftAfter left q p) h)
+          | yes h ↦ unchanged p ∙ sym (work-past n p (leftAfter left q p) h)
           | no h ↦
-              unchanged p (omega arith)
+              unchanged p
               ∙ sym (work-none n p (leftAfter left q p) (omega (arith, none-left e p (omega arith), after-other left q p (omega arith))))
         ];
-        small = λ w. small-after last q w;
+        small = λ w. rw (still-none last q ready w (zero-word w)) (lit< tt);
       }
     where
       all-none : (p : ℕ) → bitAt ready p ≡ 0
       all-none p = mirrors .bits p ∙ elim (decLe n p) [ yes h ↦ work-past n p (left p) h | no h ↦ work-none n p (left p) (none-left e p (omega arith)) ]
 
       zero-word : (w : ℕ) → ready w ≡ 0
-      zero-word w =
-          no-bits 64 (ready w) (mirrors .small w) (λ b l.
-          let at-word : (64 * w + b) / 64 ≡ w = omega arith in
-          let at-bit : (64 * w + b) % 64 ≡ b = omega arith in
-          rw (at-word, at-bit) at (all-none (64 * w + b)))
+      zero-word w = no-word w (λ b l. all-none (64 * w + b))
 
-      unchanged : (p : ℕ) → 0 ≤ p → bitAt (readyAfter last q ready) p ≡ 0
-      unchanged p h = ap (λ (word : ℕ). bitOf word (p % 64)) (still-none last q ready (p / 64) (zero-word (p / 64))) ∙ bit-of-zero (p % 64)
-
-      small-after : (last : Bool) (q w : ℕ) → readyAfter last q ready w < 2 ^ 64
-      small-after last q w = rw (still-none last q ready w (zero-word w)) (omega arith)
+      unchanged : (p : ℕ) → bitAt (readyAfter last q ready) p ≡ 0
+      unchanged p = ap (λ (word : ℕ). bitOf word (p % 64)) (still-none last q ready (p / 64) (zero-word (p / 64))) ∙ bit-of-zero (p % 64)
 
   module _ (q : ℕ) (isPlace : q < n) (hasWork : 1 ≤ left q) where
     -- where it takes the last of the work,

@@ -18,12 +18,12 @@ use Rattle.model.proofs.Filling.{filled-set, filled-again, filled-same, filled-
 use Rattle.model.proofs.Search.{finds, missed}
 use Rattle.model.proofs.Tests.{eqb?, ltb?, clash}
 use Rattle.machine.specs.Machine.{State, inWord, after, nextPlace, placeServed, earliest, behind, nextIn, none, played, upTo, isQuiet, ticksPlayed}
-use Rattle.machine.specs.Slices.{TasksHeld, DeadlinesHeld, Kept, kept, StateHeld, Known, StartHeld, Leaves, PlayLeaves, HasNext, wordsFor, stateIn, releasedIn, servedIn, reportedIn}
+use Rattle.machine.specs.Slices.{TasksHeld, DeadlinesHeld, Kept, kept, StateHeld, NextKnown, StartHeld, Leaves, PlayLeaves, HasNext, wordsFor, stateIn, releasedIn, servedIn, reportedIn}
 use Rattle.machine.proofs.MachineLaws.{Next, inTick, left-step, left-high, due-is, words-empty, tick-empty, the-next, start-ready, stay-ready, after-own}
 use Rattle.machine.proofs.WordLaws.{next-none}
 use Rattle.machine.proofs.ReportLaws.{search-on, reported, report-none, report-late, report-all, report-on, report-other, report-quiet, report-own}
 use Rattle.machine.proofs.SameLaws.{Same, release-same, serve-same}
-use Rattle.machine.proofs.ReleaseLaws.{earliest-high, earliest-same}
+use Rattle.machine.proofs.ReleaseLaws.{earliest-same}
 
 -- every task is due at 0 before the first tick
 first-due : (m : ℕ) → 1 ≤ m → earliest (λ p. 0) m ≡ 0
@@ -151,7 +151,7 @@ module _ (periods costs : List ℕ) (n : ℕ) where
             notPast = λ p h. omega (arith, same .due p h, due-is (wordOf periods) (wordOf costs) n (tasks .periodLow) t p h .2);
           }
 
-      pub state-known : Known n k place next
+      pub state-known : NextKnown n k place next
       state-known =
           record {
             placeIs = play .placeIs ∙ ap nextPlace (sym (same .ready));

@@ -6,7 +6,6 @@ use native.Mathlib.Decide.{decLt}
 use native.Mathlib.Nat.{add-zero}
 use native.Mathlib.Numerals.{add-one}
 use mathlib.Core.Path.{_≡_, refl, sym, _∙_, ap}
-use mathlib.Core.Bool.{false}
 use mathlib.Core.List.{List}
 use mathlib.Core.Logic.{inl, inr}
 use lib.Dec.{eqb}
@@ -18,7 +17,7 @@ use Rattle.model.proofs.Filling.{Filling, filling-none, filling-at, filling-old
 use Rattle.model.proofs.Lists.{getD-filled, getD-filled-past, length-filled}
 use Rattle.model.proofs.Tests.{eqb?}
 use Rattle.machine.specs.Machine.{leftWith, dueWith, raised, raisedBy, inWord, nextPlace, earliest, behind, nextIn}
-use Rattle.machine.specs.Slices.{TasksHeld, WorkHeld, WordsHeld, StateHeld, Known, Kept, Leaves, NoneDue, SomeReleased, WordReleased, releasedIn, wordsFor, endOf}
+use Rattle.machine.specs.Slices.{TasksHeld, WorkHeld, WordsHeld, StateHeld, NextKnown, Kept, Leaves, NoneDue, SomeReleased, WordReleased, releasedIn, wordsFor, endOf}
 use Rattle.machine.proofs.WordLaws.{next-same}
 use Rattle.machine.proofs.SameLaws.{raised-same}
 use Rattle.machine.proofs.StepLaws.{stays}
@@ -423,7 +422,7 @@ module _ (periods costs : List ℕ) (n t : ℕ) (before : Kept) where
           }
 
     -- Where nothing is due the slices hold what a release would leave, and the next task stays.
-    module _ (place next : ℕ) (known : Known n before place next) (early : t < next) where
+    module _ (place next : ℕ) (known : NextKnown n before place next) (early : t < next) where
       later : NoneDue n t (before .due)
       later p h e = omega (arith, e, known .nextIs, earliest-low (wordOf (before .due)) n p h)
 

@@ -1,15 +1,14 @@
 -- The work of a tick, once its releases are made.
 -- Assumes nothing.
-use Prim.Native.Nat.{ℕ, _-_, _*_, _/_, _≤_, _<_}
+use Prim.Native.Nat.{ℕ, _-_, _/_, _≤_, _<_}
 use native.Mathlib.Omega.{arith}
-use native.Mathlib.Decide.{decLt}
 use mathlib.Core.Path.{_≡_, sym, _∙_, ap}
 use mathlib.Core.List.{List}
 use lib.Dec.{eqb}
 use lib.ListN.{length, set}
 use Rattle.model.specs.Lists.{wordOf}
 use Rattle.model.proofs.Lists.{getD-filled, length-filled}
-use Rattle.model.proofs.Filling.{filled-set, filled-word}
+use Rattle.model.proofs.Filling.{filled-set}
 use Rattle.machine.specs.Machine.{State, nextPlace, leftAfter, readyAfter}
 use Rattle.machine.specs.Slices.{Kept, kept, TasksHeld, StateHeld, Leaves, HasNext, releasedIn, servedIn, reportedIn, wordsFor}
 use Rattle.machine.proofs.MachineLaws.{after-own, after-other, other-word}

@@ -11,7 +11,7 @@ use lib.Dec.{eqb, ltb}
 use lib.ListN.{length, getD, set, length-set}
 use lib.Seq.{set-getD, getD-set-same, getD-set-other}
 use borrow.Author.Tests.{eq-eqb, ne-eqb, lt-ltb, le-ltb}
-use Rattle.model.specs.Choice.{pick, both, on}
+use Rattle.model.specs.Choice.{pick, on}
 use Rattle.model.specs.Lists.{largestTo, wordOf}
 use Rattle.model.proofs.Lists.{largest-none, largest-more}
 use Rattle.machine.specs.Machine.{mask, nextPlace, readyAfter, raisedBy}

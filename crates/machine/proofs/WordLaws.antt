@@ -6,7 +6,6 @@ use native.Mathlib.Decide.{decLt, ℕ-discrete}
 use native.Mathlib.Numerals.{add-one}
 use native.Mathlib.Omega.{arith}
 use mathlib.Core.Path.{_≡_, refl, sym, _∙_, ap, fun-ext}
-use mathlib.Core.Logic.{inl, inr}
 use lib.Count.{trailingZeros}
 use lib.Dec.{lit<}
 use lib.Pow.{shl-exact}

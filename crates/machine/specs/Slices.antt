@@ -72,7 +72,7 @@ pub record StateHeld (n t : ℕ) (k : Kept) : Type 0 where
   pub notPast : (p : ℕ) → p < n → t ≤ wordOf (k .due) p
 
 -- the place of the next task, and the earliest tick at which one is due
-pub record Known (n : ℕ) (k : Kept) (place next : ℕ) : Type 0 where
+pub record NextKnown (n : ℕ) (k : Kept) (place next : ℕ) : Type 0 where
   pub placeIs : place ≡ nextPlace (wordOf (k .ready))
   pub nextIs : next ≡ earliest (wordOf (k .due)) n
 

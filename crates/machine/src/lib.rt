@@ -1,12 +1,12 @@
 // The engine (SPECIFICATION 9; document 02, L1 and L9) over numbers alone: it plays tick after tick, and knows no bytes and no tables.
 ghost use mathlib.Core.Path.{_≡_};
-ghost use Prim.Native.Nat.{ℕ, _+_, _-_, _/_, _≤_, _<_};
+ghost use Prim.Native.Nat.{_+_, _-_, _/_, _≤_, _<_};
 ghost use lib.Dec.{eqb, ltb};
 ghost use lib.ListN.{length, set};
 ghost use Rattle.model.specs.Choice.{pick};
 ghost use Rattle.model.specs.Lists.{filled, largestTo, wordOf};
 ghost use Rattle.machine.specs.Machine as spec;
-ghost use Rattle.machine.specs.Slices.{TasksHeld, DeadlinesHeld, WordsHeld, StateHeld, Known, StartHeld, Leaves, PlayLeaves, HasNext, kept, wordsFor, releasedIn, servedIn, reportedIn};
+ghost use Rattle.machine.specs.Slices.{TasksHeld, DeadlinesHeld, WordsHeld, StateHeld, NextKnown, StartHeld, Leaves, PlayLeaves, HasNext, kept, wordsFor, releasedIn, servedIn, reportedIn};
 use model::Place;
 use model::Ticks;
 use model::larger;
@@ -90,7 +90,7 @@ fn begin(
     next: Ticks,
 ) -> Begun
     requires { ⌜ TasksHeld (now periods) (now costs) n × (count ≡ wordsFor n) × (at .0 < 1000000) ⌝ }
-    requires { ⌜ StateHeld n (at .0) (kept (now left) (now due) (now ready) (now nexts)) × Known n (kept (now left) (now due) (now ready) (now nexts)) (place .0) (next .0) ⌝ }
+    requires { ⌜ StateHeld n (at .0) (kept (now left) (now due) (now ready) (now nexts)) × NextKnown n (kept (now left) (now due) (now ready) (now nexts)) (place .0) (next .0) ⌝ }
     ensures { λ r. ⌜ Leaves n (kept (now (left .entry)) (now (due .entry)) (now (ready .entry)) (now (nexts .entry))) (releasedIn (now (periods .entry)) (now (costs .entry)) n (at .0) (kept (now (left .entry)) (now (due .entry)) (now (ready .entry)) (now (nexts .entry)))) (kept (now (left .exit)) (now (due .exit)) (now (ready .exit)) (now (nexts .exit))) (r .next .0) ⌝ }
     ensures { λ r. ⌜ r .place .0 ≡ spec.nextPlace (releasedIn (now (periods .entry)) (now (costs .entry)) n (at .0) (kept (now (left .entry)) (now (due .entry)) (now (ready .entry)) (now (nexts .entry))) .ready) ⌝ }
 {
@@ -122,7 +122,7 @@ pub fn step(
 ) -> Tick
     requires { ⌜ TasksHeld (now periods) (now costs) n × (count ≡ wordsFor n) ⌝ }
     requires { ⌜ (n ≤ length (now deadlines)) × (n ≤ length (now answers)) × (at .0 < 1000000) ⌝ }
-    requires { ⌜ StateHeld n (at .0) (kept (now left) (now due) (now ready) (now nexts)) × Known n (kept (now left) (now due) (now ready) (now nexts)) (place .0) (next .0) ⌝ }
+    requires { ⌜ StateHeld n (at .0) (kept (now left) (now due) (now ready) (now nexts)) × NextKnown n (kept (now left) (now due) (now ready) (now nexts)) (place .0) (next .0) ⌝ }
     requires { ⌜ HasNext n (releasedIn (now periods) (now costs) n (at .0) (kept (now left) (now due) (now ready) (now nexts))) ⌝ }
     ensures { λ r. ⌜ Leaves n (kept (now (left .entry)) (now (due .entry)) (now (ready .entry)) (now (nexts .entry))) (servedIn (now (periods .entry)) (now (costs .entry)) n (at .0) (kept (now (left .entry)) (now (due .entry)) (now (ready .entry)) (now (nexts .entry)))) (kept (now (left .exit)) (now (due .exit)) (now (ready .exit)) (now (nexts .exit))) (r .next .0) ⌝ }
     ensures { λ r. ⌜ r .place .0 ≡ spec.nextPlace (releasedIn (now (periods .entry)) (now (costs .entry)) n (at .0) (kept (now (left .entry)) (now (due .entry)) (now (ready .entry)) (now (nexts .entry))) .ready) ⌝ }

@@ -1,7 +1,7 @@
 -- `machine::serve` meets its contract: the bit goes with the last tick of work, and the next task is looked for.
 -- Assumes nothing.
 use native.Mathlib.Omega.{arith}
-use mathlib.Core.Path.{refl, _∙_}
+use mathlib.Core.Path.{refl}
 use Rattle.model.specs.Lists.{wordOf}
 use Rattle.machine.proofs.StepLaws.{words-stay, place-stays, words-cleared, place-after, rest-stays, last-reported, none-reported}
 use borrow.Author.Needs.{needs}

@@ -1,9 +1,7 @@
 -- `machine::release::release` meets its contract: each turn looks at one word, by the laws of `ReleaseLaws`.
 -- Assumes nothing.
-use Prim.Native.Nat.{ℕ, _-_, _≤_, _<_}
+use Prim.Native.Nat.{_-_, _<_}
 use native.Mathlib.Omega.{arith}
-use mathlib.Core.Path.{_≡_, refl, sym, _∙_, ap}
-use lib.ListN.{length}
 use Rattle.machine.specs.Slices.{kept, wordsFor}
 use Rattle.machine.proofs.ReleaseLaws.{Looking, looking-none, looking-more, looking-left, looking-due, none-due, work-held, ready-room, nexts-room, next-there, not-past, all-released}
 use Rattle.machine.proofs.release.release.Statement.{statement}
