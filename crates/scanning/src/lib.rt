@@ -193,7 +193,7 @@ fn with_value(start: TextPlace, value: u64) -> State
 }
 
 // Is it one of the characters `0` to `9`?
-fn is_digit(byte: u8) -> bool
+pub fn is_digit(byte: u8) -> bool
     ensures { λ r. ⌜ r ≡ isDigit byte ⌝ }
 {
     if byte < b'0' {

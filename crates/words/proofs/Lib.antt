@@ -1,0 +1,3 @@
+pub mod StepLaws
+pub mod HeardLaws
+pub mod SpellingLaws

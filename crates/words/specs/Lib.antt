@@ -1,0 +1,3 @@
+pub mod Words
+pub mod Steps
+pub mod Heard
