@@ -1,0 +1,3 @@
+pub mod LineLaws
+pub mod SetLaws
+pub mod MemoryLaws
