@@ -1,3 +1,5 @@
 pub mod LineLaws
 pub mod SetLaws
 pub mod MemoryLaws
+pub mod RoomLaws
+pub mod KeptLaws

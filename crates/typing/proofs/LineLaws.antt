@@ -27,7 +27,7 @@ needed-few SectionLine = omega arith
 below-small : (first at : ℕ) → byteBelow first at ≤ 4294967295
 below-small first at = elim (bool? (ltb at first)) [ inl p ↦ rw p (omega arith) | inr p ↦ rw p (omega arith) ]
 
-limit-small : (kind : Kind) (at : ℕ) → limitFor kind at ≤ 4294967295
+pub limit-small : (kind : Kind) (at : ℕ) → limitFor kind at ≤ 4294967295
 limit-small VersionLine at = omega arith
 limit-small TaskLine at = below-small 1 at
 limit-small JitterLine at = below-small 1 at
