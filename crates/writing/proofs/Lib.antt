@@ -1,0 +1,5 @@
+pub mod LineLaws
+pub mod HeadLaws
+pub mod Forms
+pub mod LongestLaws
+pub mod SampleForms
