@@ -2,4 +2,5 @@ pub mod LineLaws
 pub mod HeadLaws
 pub mod Forms
 pub mod LongestLaws
+pub mod LongTable
 pub mod SampleForms

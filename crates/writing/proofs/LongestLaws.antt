@@ -2,19 +2,16 @@
 -- Assumes nothing.
 use Prim.Native.Nat.{ℕ, suc, _+_, _*_, _≤_, _<_}
 use native.Mathlib.Omega.{arith}
-use native.Mathlib.Nat.{mul-le-mul}
-use mathlib.Core.Path.{_≡_, refl, sym, _∙_, ap}
+use mathlib.Core.Path.{_≡_, refl, sym}
 use mathlib.Core.Logic.{inl, inr}
 use mathlib.Core.List.{List, [], _∷_, _++_}
 use lib.ListN.{length, getD, length-append}
-use Rattle.model.specs.Lists.{tabulate}
-use Rattle.model.specs.Search.{firstFrom}
 use Rattle.model.specs.Tables.{Task, Row, Table, noTask, taskOf}
 use Rattle.model.proofs.Tests.{eqb?}
 use Rattle.tables.specs.declared.Check.{Check}
 use Rattle.tables.specs.declared.Check.the-variants.{Clean, Refused}
 use Rattle.tables.specs.Fields.{taskCountField, rowCountField, periodField, costField, deadlineField, earliestField, latestField, placeField, semaphoreField, longestField}
-use Rattle.tables.specs.Layout.{versionOf, layoutOf, taskCount, rowCount, taskAt, rowAt, tasksOf, rowsOf, tableOf}
+use Rattle.tables.specs.Layout.{versionOf, taskCount, rowCount, taskAt, rowAt, tableOf}
 use Rattle.tables.specs.Checks.{readCheck}
 use Rattle.tables.specs.Meaning.{Known, TableRightSpanning}
 use Rattle.tables.proofs.LayoutLaws.{layout-sound, task-is, tasks-count, row-is, rows-count}
@@ -27,7 +24,7 @@ use Rattle.printing.specs.Text.{bytesOf, decimalOf, withNumber, lineWithNumber}
 use Rattle.printing.proofs.LengthLaws.{few-digits, seven-digits, number-long, line-long}
 use Rattle.printing.proofs.LongestLaws.{refused-long, whole}
 use Rattle.writing.specs.Text.{commentLine, nextNumber, delaysText, taskLine, sectionLine, formOf, formOrRefusal, formText}
-use Rattle.writing.specs.Longest.{longestForm, FormFits, LongestFormReached, FormWhole}
+use Rattle.writing.specs.Longest.{longestForm, FormFits, FormWhole}
 
 three-digits : (number : ℕ) → number ≤ 255 → length (decimalOf number) ≤ 3
 three-digits number h = few-digits number 3 (omega arith) (omega arith)
@@ -57,7 +54,7 @@ delays-long earliest latest first last =
     ]
 
 -- a task whose numbers are those of a table that is not refused, and a section
-pub record SmallTask (t : Task) : Type 0 where
+record SmallTask (t : Task) : Type 0 where
   pub priority : t .priority ≤ 255
   pub period : t .period ≤ 1000000
   pub cost : t .cost ≤ 1000000
@@ -65,7 +62,7 @@ pub record SmallTask (t : Task) : Type 0 where
   pub earliest : t .earliest ≤ 1000000
   pub latest : t .latest ≤ 1000000
 
-pub record SmallRow (r : Row) : Type 0 where
+record SmallRow (r : Row) : Type 0 where
   pub place : r .place ≤ 255
   pub semaphore : r .semaphore ≤ 16
   pub longest : r .longest ≤ 1000000
@@ -198,10 +195,6 @@ formFits bytes are = go (readCheck 4 bytes) refl
     go (Refused refusal) is =
         let deserved = table-deserved 4 bytes 200 200 refusal (read-decides 4 bytes 200 200 refusal (sym is)) in
         omega (arith, refused-long refusal (refusal-place 4 bytes 200 200 refusal deserved))
-
-pub longestFormReached : LongestFormReached
-unfolding formOf taskLine sectionLine delaysText decimalOf firstFrom tabulate joined
-longestFormReached = refl
 
 pub formWhole : FormWhole
 formWhole bytes old end new are room a = whole old (formText bytes) end new (omega (arith, formFits bytes are)) a

@@ -1,6 +1,7 @@
--- What the text form leaves out: nothing (SPECIFICATION 14). The proofs are in proofs/Forms.antt.
+-- The text form leaves out nothing that a table's bytes say, and every table that is not refused has one (SPECIFICATION 14). The proofs are
+-- in proofs/Forms.antt.
 -- Assumes nothing.
-use Prim.Native.Nat.{ℕ}
+use Prim.Native.Nat.{ℕ, _≤_}
 use mathlib.Core.Path.{_≡_}
 use mathlib.Core.List.{List}
 use Rattle.tables.specs.Layout.{versionOf, tableOf}
@@ -9,12 +10,14 @@ use Rattle.encoding.specs.Bytes.{encode}
 use Rattle.encoding.specs.Statements.{AreBytes}
 use Rattle.writing.specs.Text.{formOf, formText}
 
--- A table that is not refused is the bytes of the version and the table that its form says, however many periods a deadline may span: two
--- tables of one version and one meaning are the same bytes.
+-- The form is made of the version and of the tasks and rows that the bytes mean, and these have no other bytes, however many periods a
+-- deadline may span.
 abbrev pub OnlyBytesSpanning : Type 0
 OnlyBytesSpanning =
     (span : ℕ) (bytes : List ℕ) → AreBytes bytes → TableRightSpanning span bytes → encode (versionOf bytes) (tableOf bytes) ≡ bytes
 
--- The text for the bytes of a table that breaks no rule is its form, and no refusal's line.
+-- The text for the bytes of a table that breaks no rule is its form, and no refusal's line: so of every table that either analysis accepts,
+-- since a deadline spans one period in the first and up to four in the second.
 abbrev pub FormGiven : Type 0
-FormGiven = (bytes : List ℕ) → TableRightSpanning 4 bytes → formText bytes ≡ formOf (versionOf bytes) (tableOf bytes)
+FormGiven =
+    (span : ℕ) (bytes : List ℕ) → span ≤ 4 → TableRightSpanning span bytes → formText bytes ≡ formOf (versionOf bytes) (tableOf bytes)

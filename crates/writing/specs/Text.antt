@@ -20,8 +20,8 @@ commentLine = bytesOf "# task PRIORITY PERIOD COST DEADLINE; section PLACE SEMAP
 abbrev pub nextNumber : ℕ → List ℕ
 nextNumber number = withNumber (bytesOf " ") number
 
--- The delays say themselves by their two numbers alone, and so alike in every version: nothing where both are 0, ` jitter L` where only the
--- earliest is, ` delays E L` where it is not.
+-- What is said of the delays depends on their two numbers alone, so that it is the same in every version: nothing where both are 0,
+-- ` jitter L` where the earliest is 0 and the latest is not, ` delays E L` where the earliest is not 0.
 unfoldable pub delaysText : (earliest latest : ℕ) → List ℕ
 delaysText earliest latest =
     pick (eqb earliest 0) (pick (eqb latest 0) [] (withNumber (bytesOf " jitter ") latest))
