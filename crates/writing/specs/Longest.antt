@@ -1,5 +1,5 @@
 -- How long the text form of a table can be, and that a buffer of that many bytes holds it whole (SPECIFICATION 14). The proofs are in
--- proofs/LongestLaws.antt.
+-- proofs/LongestLaws.antt and proofs/LongTable.antt.
 -- Assumes nothing.
 use Prim.Native.Nat.{ℕ, _+_, _*_, _/_, _%_, _≤_}
 use mathlib.Core.Path.{_≡_}

@@ -1,5 +1,5 @@
--- The text form leaves out nothing that a table's bytes say, and every table that is not refused has one (SPECIFICATION 14). The proofs are
--- in proofs/Forms.antt.
+-- What the text form is made of leaves out nothing that a table's bytes say, and every table that is not refused has a form (SPECIFICATION
+-- 14). The proofs are in proofs/Forms.antt.
 -- Assumes nothing.
 use Prim.Native.Nat.{ℕ, _≤_}
 use mathlib.Core.Path.{_≡_}
