@@ -17,7 +17,7 @@ use Rattle.encoding.specs.Statements.{noRow, rowOf, Fits}
 use Rattle.encoding.proofs.RuleLaws.{fields-same, sections-same}
 use Rattle.encoding.proofs.Encoding.{encoded}
 use Rattle.printing.specs.Text.{decimalOf}
-use Rattle.writing.specs.Text.{delaysText, taskLine, sectionLine, formOf}
+use Rattle.writing.specs.Text.{delaysText, taskNumbers, taskLine, sectionLine, formOf}
 use Rattle.writing.specs.Longest.{longestForm, longTask, longRow, longTable, LongestFormReached}
 use Rattle.writing.proofs.Forms.{formGiven}
 
@@ -66,7 +66,7 @@ long-fits =
     }
 
 form-long : length (formOf 3 longTable) ≡ longestForm
-unfolding formOf taskLine sectionLine delaysText decimalOf firstFrom tabulate joined
+unfolding formOf taskLine taskNumbers sectionLine delaysText decimalOf firstFrom tabulate joined
 form-long = refl
 
 pub longestFormReached : LongestFormReached

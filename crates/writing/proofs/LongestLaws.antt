@@ -23,7 +23,7 @@ use Rattle.encoding.specs.Statements.{noRow, rowOf, AreBytes}
 use Rattle.printing.specs.Text.{bytesOf, decimalOf, withNumber, lineWithNumber}
 use Rattle.printing.proofs.LengthLaws.{few-digits, seven-digits, number-long, line-long}
 use Rattle.printing.proofs.LongestLaws.{refused-long, whole}
-use Rattle.writing.specs.Text.{commentLine, nextNumber, delaysText, taskLine, sectionLine, formOf, formOrRefusal, formText}
+use Rattle.writing.specs.Text.{commentLine, nextNumber, delaysText, taskNumbers, taskLine, sectionLine, formOf, formOrRefusal, formText}
 use Rattle.writing.specs.Longest.{longestForm, FormFits, FormWhole}
 
 three-digits : (number : ℕ) → number ≤ 255 → length (decimalOf number) ≤ 3
@@ -68,7 +68,7 @@ record SmallRow (r : Row) : Type 0 where
   pub longest : r .longest ≤ 1000000
 
 task-long : (t : Task) → SmallTask t → length (taskLine t) ≤ 56
-unfolding taskLine
+unfolding taskLine taskNumbers
 task-long t small =
     let named = withNumber (bytesOf "task ") (t .priority) in
     let period = named ++ nextNumber (t .period) in

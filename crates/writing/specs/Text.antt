@@ -27,15 +27,14 @@ delaysText earliest latest =
     pick (eqb earliest 0) (pick (eqb latest 0) [] (withNumber (bytesOf " jitter ") latest))
     (withNumber (bytesOf " delays ") earliest ++ nextNumber latest)
 
--- `task PRIORITY PERIOD COST DEADLINE`, and the delays behind it
+-- `task PRIORITY PERIOD COST DEADLINE`
+unfoldable pub taskNumbers : Task → List ℕ
+taskNumbers t =
+    withNumber (bytesOf "task ") (t .priority) ++ nextNumber (t .period) ++ nextNumber (t .cost) ++ nextNumber (t .deadline)
+
+-- and the delays behind it
 unfoldable pub taskLine : Task → List ℕ
-taskLine t =
-    withNumber (bytesOf "task ") (t .priority)
-    ++ nextNumber (t .period)
-    ++ nextNumber (t .cost)
-    ++ nextNumber (t .deadline)
-    ++ delaysText (t .earliest) (t .latest)
-    ++ bytesOf "\n"
+taskLine t = taskNumbers t ++ delaysText (t .earliest) (t .latest) ++ bytesOf "\n"
 
 -- `section PLACE SEMAPHORE LENGTH`
 unfoldable pub sectionLine : Row → List ℕ

@@ -7,7 +7,7 @@ ghost use Rattle.tables.specs.Checks.{headCheck, readCheck};
 ghost use Rattle.encoding.specs.Bytes.{joined};
 ghost use Rattle.reading.specs.Reading.{taskFrom, rowOf};
 ghost use Rattle.printing.specs.Appended.{Appended};
-ghost use Rattle.writing.specs.Text.{nextNumber, delaysText, taskLine, sectionLine, formOf, formText};
+ghost use Rattle.writing.specs.Text.{nextNumber, delaysText, taskNumbers, taskLine, sectionLine, formOf, formText};
 use model::Ticks;
 use printing::append;
 use printing::append_with_number;
@@ -93,12 +93,19 @@ fn tasks(out: &mut [u8], at: usize, table: &[u8]) -> usize
 fn task(out: &mut [u8], at: usize, task: TaskRecord) -> usize
     ensures { λ r. ⌜ Appended (now (out .entry)) at (taskLine (taskFrom task)) r (now (out .exit)) ⌝ }
 {
+    let next = numbers(out, at, task);
+    let delayed = delays(out, next, task.earliest, task.latest);
+    append(out, delayed, b"\n")
+}
+
+// The four numbers that every task has.
+fn numbers(out: &mut [u8], at: usize, task: TaskRecord) -> usize
+    ensures { λ r. ⌜ Appended (now (out .entry)) at (taskNumbers (taskFrom task)) r (now (out .exit)) ⌝ }
+{
     let named = append_with_number(out, at, b"task ", task.priority.0 as u64);
     let period = next_number(out, named, task.period.0 as u64);
     let cost = next_number(out, period, task.cost.0 as u64);
-    let deadline = next_number(out, cost, task.deadline.0 as u64);
-    let delayed = delays(out, deadline, task.earliest, task.latest);
-    append(out, delayed, b"\n")
+    next_number(out, cost, task.deadline.0 as u64)
 }
 
 // The delays behind a deadline. An earliest delay of 0 needs no word of its own.
