@@ -12,7 +12,7 @@ use Rattle.tables.specs.declared.layout.DelayFields.{DelayFields}
 use Rattle.tables.specs.declared.layout.DelayFields.the-variants.{Jitter}
 use Rattle.tables.specs.Fields.{taskCountField, rowCountField, periodField, costField, deadlineField, earliestField, latestField, placeField, semaphoreField, longestField, CountField}
 use Rattle.tables.specs.Layout.{layoutFor, layoutOf, byteAt, halfAt, versionOf, taskCount, rowCount, lengthFor, earliestFrom, taskAt, rowAt, tasksOf, rowsOf, tableOf, Sound}
-use Rattle.tables.specs.Meaning.{Known, CountRight, TableRight}
+use Rattle.tables.specs.Meaning.{Known, CountRight, HeadRight, TableRight}
 use Rattle.tables.proofs.LayoutLaws.{layout-sound, task-is, tasks-count, row-is, rows-count}
 use Rattle.encoding.specs.Bytes.{headBytes, recordBytes, rowBytes, joined, encode}
 use Rattle.encoding.specs.Statements.{noRow, rowOf, Fits, AreBytes, Encoded}
@@ -195,12 +195,13 @@ module _ (bytes : List ℕ) (are : AreBytes bytes) (right : TableRight bytes) wh
             rw (task-is bytes i inside) (no-earliest (layoutOf bytes .delays) _ e);
       }
 
-  -- the head of accepted bytes
+-- the bytes of what they mean are those bytes: a right head is enough, and no rule of a record or a row is needed
+module _ (bytes : List ℕ) (are : AreBytes bytes) (head : HeadRight bytes) where
   head-stands : Stands bytes 0 (headBytes (versionOf bytes) (length (tasksOf bytes)) (length (rowsOf bytes)))
   head-stands = rw (tasks-count bytes, rows-count bytes) (record { is = each })
     where
       long : lengthFor (layoutOf bytes) (taskCount bytes) (rowCount bytes) ≡ halfAt bytes 1
-      long = right .head .lengths .summed ∙ sym (right .head .lengths .stated)
+      long = head .lengths .summed ∙ sym (head .lengths .stated)
 
       each : (j : ℕ) → j < 5 → byteAt bytes (0 + j) ≡ byteAt (headBytes (versionOf bytes) (taskCount bytes) (rowCount bytes)) j
       each zero h = refl
@@ -210,7 +211,7 @@ module _ (bytes : List ℕ) (are : AreBytes bytes) (right : TableRight bytes) wh
       each (suc (suc (suc (suc zero)))) h = refl
       each (suc (suc (suc (suc (suc j))))) h = absurd (omega arith)
 
-  only-bytes : encode (versionOf bytes) (tableOf bytes) ≡ bytes
+  pub only-bytes : encode (versionOf bytes) (tableOf bytes) ≡ bytes
   only-bytes =
       whole-is bytes (encode (versionOf bytes) (tableOf bytes))
       (stands-both bytes (headBytes (versionOf bytes) (length (tasksOf bytes)) (length (rowsOf bytes))) _ 0 head-stands
@@ -229,10 +230,10 @@ module _ (bytes : List ℕ) (are : AreBytes bytes) (right : TableRight bytes) wh
         ap (λ (n : ℕ). layoutOf bytes .size * n) (tasks-count bytes),
         length-joined (recordBytes (layoutOf bytes .delays)) (layoutOf bytes .size) sizes (tasksOf bytes),
       )))))
-      (length-encoded (versionOf bytes) (tableOf bytes) (right .head .version) ∙ rw (tasks-count bytes, rows-count bytes) (right .head .lengths .summed))
+      (length-encoded (versionOf bytes) (tableOf bytes) (head .version) ∙ rw (tasks-count bytes, rows-count bytes) (head .lengths .summed))
     where
       sizes : (t : Task) → length (recordBytes (layoutOf bytes .delays) t) ≡ layoutOf bytes .size
-      sizes = record-sized (versionOf bytes) (right .head .version)
+      sizes = record-sized (versionOf bytes) (head .version)
 
 pub encoded : Encoded
 encoded =
@@ -242,5 +243,5 @@ encoded =
       accepted = accepted;
       readBack = read-back;
       meansFit = means-fit;
-      onlyBytes = only-bytes;
+      onlyBytes = λ bytes are right. only-bytes bytes are (right .head);
     }

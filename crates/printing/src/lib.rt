@@ -100,7 +100,7 @@ pub fn line_with_number(out: &mut [u8], at: usize, word: &[u8], number: u64) -> 
 }
 
 // A refusal's one line.
-fn refused(out: &mut [u8], at: usize, refusal: Refusal) -> usize
+pub fn refused(out: &mut [u8], at: usize, refusal: Refusal) -> usize
     ensures { λ r. ⌜ Appended (now (out .entry)) at (refusedLine refusal) r (now (out .exit)) ⌝ }
 {
     refusal_line(out, at, tables::number(refusal), tables::place(refusal))

@@ -15,8 +15,8 @@ use tables::VERSION_AT;
 use tables::fields::count;
 use tables::is_clean;
 
-mod records;
-mod rows;
+pub mod records;
+pub mod rows;
 
 // Room for tasks: 32 of them, the limit of versions 1 and 2, or the 200 of version 3 (document 02, L9).
 pub const SMALL_ROOM: usize = 32;

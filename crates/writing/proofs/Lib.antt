@@ -1,0 +1,6 @@
+pub mod LineLaws
+pub mod HeadLaws
+pub mod Forms
+pub mod LongestLaws
+pub mod LongTable
+pub mod SampleForms

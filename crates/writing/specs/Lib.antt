@@ -1,0 +1,4 @@
+pub mod Text
+pub mod Longest
+pub mod Statements
+pub mod Samples
