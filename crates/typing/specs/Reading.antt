@@ -198,3 +198,8 @@ tableTyped typed = record { tasks = typed .tasks; rows = typed .rows }
 
 abbrev pub bytesTyped : ℕ → Typed → List ℕ
 bytesTyped version typed = encode version (tableTyped typed)
+
+-- what is answered: the table's bytes, which are never none, or none
+abbrev pub bytesIn : Reading → List ℕ
+bytesIn (given version typed) = bytesTyped version typed
+bytesIn (faulty line fault) = []
