@@ -1,0 +1,2 @@
+pub mod Bytes
+pub mod Messages
