@@ -2,7 +2,7 @@
 -- Assumes nothing.
 use native.Mathlib.Omega.{arith}
 use mathlib.Core.Path.{sym, _∙_}
-use Rattle.machine.proofs.PlayLaws.{start-held}
+use Rattle.ticking.proofs.PlayLaws.{start-held}
 use Rattle.engine.proofs.PlayedLaws.{right, tasks-held, deadlines-held, limit-high, no-room, rows-refused, delay-refused, tie-refused, all-played}
 use borrow.Author.Needs.{needs}
 use Rattle.engine.proofs.play_columns.Statement.{statement}

@@ -1,0 +1,4 @@
+pub mod LongestTexts
+pub mod SampleTexts
+pub mod PastSampleTexts
+pub mod PastExampleLaws

@@ -1,0 +1,4 @@
+pub mod Longest
+pub mod Samples
+pub mod PastSamples
+pub mod PastExamples
