@@ -17,10 +17,10 @@ use Rattle.tables.specs.Refusals.{at}
 use Rattle.equation.specs.declared.Start.{Start}
 use Rattle.equation.specs.declared.Start.the-variants.{EveryCost, OwnCost}
 use Rattle.equation.specs.Slices.{loads, loadAt, LoadsFit}
-use Rattle.solver.specs.Marks.{PeriodsHigh, firstMarkAt, leastFrom, never, Begun}
+use Rattle.marks.specs.Marks.{PeriodsHigh, firstMarkAt, leastFrom, never, Begun}
 use Rattle.equation.proofs.SliceLaws.{loads-less}
-use Rattle.solver.proofs.PassLaws.{least-low}
-use Rattle.solver.proofs.MarkLaws.{marksFit}
+use Rattle.marks.proofs.PassLaws.{least-low}
+use Rattle.marks.proofs.MarkLaws.{marksFit}
 use Rattle.equation.specs.Laws.{NotAbove, costOf}
 use Rattle.solver.specs.Solver.{Solvable, SolvedBy}
 use Rattle.equation.specs.Starts.{firstTerm, startFrom}

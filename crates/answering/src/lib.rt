@@ -4,15 +4,15 @@ ghost use Prim.Native.Nat.{_+_, _≤_, _<_};
 ghost use lib.ListN.{length};
 ghost use Rattle.model.specs.Choice.{pick};
 ghost use Rattle.model.specs.Lists.{total, wordOf};
-ghost use Rattle.solver.specs.Marks.{PeriodsHigh};
+ghost use Rattle.marks.specs.Marks.{PeriodsHigh};
 ghost use Rattle.answering.specs.declared.Verdict.the-variants.{Late};
 ghost use Rattle.answering.specs.Results.{isSchedulable};
 ghost use Rattle.answering.specs.Slices.{decoded, DecodedFits, Ranked, GroupBefore, GroupFound, slice, Answered};
 use equation::Start;
 use equation::first_term;
+use marks::least_first;
 use model::Place;
 use model::Ticks;
-use solver::least_first;
 use solver::solve;
 use tables::Refusal;
 

@@ -1,5 +1,5 @@
 -- Sample lists and lines, to the letter, with the tables of examples/ (crates/encoding/specs/Examples.antt) and with two of version 3
--- (crates/printing/specs/Samples.antt): as rows of one list under one statement, which the checker computes (SPECIFICATION 10.2; document 02,
+-- (crates/encoding/specs/VersionThree.antt): as rows of one list under one statement, which the checker computes (SPECIFICATION 10.2; document 02,
 -- L9). The first two lists are examples/fifth.claims and examples/fails.claims. The proof is in proofs/SampleLines.antt.
 -- Assumes nothing.
 use Prim.Native.Nat.{ℕ}
@@ -7,8 +7,8 @@ use Prim.Native.String.{String}
 use mathlib.Core.Path.{_≡_}
 use mathlib.Core.List.{List, [], _∷_, map}
 use Rattle.encoding.specs.Examples.{fifth, late, delays, refused}
+use Rattle.encoding.specs.VersionThree.{delaysThree, crowd}
 use Rattle.printing.specs.Text.{bytesOf}
-use Rattle.printing.specs.Samples.{delaysThree, crowd}
 use Rattle.checking.specs.Text.{checkText}
 
 pub record Sample : Type 0 where

@@ -14,7 +14,7 @@ use Rattle.tables.specs.declared.Check.the-variants as check
 use Rattle.tables.specs.Layout.{taskCount, tableOf}
 use Rattle.tables.specs.Refusals.{at}
 use Rattle.tables.specs.Checks.{readCheck}
-use Rattle.reading.specs.Columns.{RecordColumn, RowColumn, TableHeld}
+use Rattle.records.specs.Columns.{RecordColumn, RowColumn, TableHeld}
 use Rattle.blocking.specs.Ceilings.{blockingOf}
 use Rattle.response.proofs.DecodedLaws.{Ranks, decodedFrom, base-is, loads-agree, latest-is, deadline-is}
 use Rattle.claims.specs.declared.Claimed.{Claimed}

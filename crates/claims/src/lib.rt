@@ -6,7 +6,7 @@ ghost use Rattle.model.specs.Lists.{sumOf};
 ghost use Rattle.tables.specs.declared.Check.the-variants.{Clean};
 ghost use Rattle.tables.specs.Layout.{taskCount};
 ghost use Rattle.tables.specs.Checks.{headCheck};
-ghost use Rattle.reading.specs.Columns.{recordColumns, rowColumns, Lent, TableHeld};
+ghost use Rattle.records.specs.Columns.{recordColumns, rowColumns, Lent, TableHeld};
 ghost use Rattle.blocking.specs.Sweep.{Zeros};
 ghost use Rattle.equation.specs.Laws.{costOf};
 ghost use Rattle.equation.specs.Slices.{loads, LoadsFit};

@@ -1,3 +1,4 @@
 pub mod Bytes
 pub mod Statements
 pub mod Examples
+pub mod VersionThree

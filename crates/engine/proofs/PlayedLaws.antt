@@ -35,7 +35,7 @@ use Rattle.machine.proofs.SameLaws.{Same, after-same, played-same}
 use Rattle.answering.specs.declared.Verdict.{Verdict}
 use Rattle.answering.specs.declared.Verdict.the-variants as verdict
 use Rattle.answering.specs.Results.{isSchedulable, lateAt, resultOf}
-use Rattle.reading.specs.Columns.{RecordColumn, periodColumn, costColumn, deadlineColumn, latestColumn, RowColumn, TableHeld}
+use Rattle.records.specs.Columns.{RecordColumn, periodColumn, costColumn, deadlineColumn, latestColumn, RowColumn, TableHeld}
 use Rattle.engine.specs.Run.{engineAfter, engineAnswer, periodsOf, costsOf, deadlinesOf}
 use Rattle.engine.specs.Outcome.{Played, tiedAt, isPlain, playCheck, playVerdict, playWords}
 use Rattle.engine.specs.Held.{NumbersHeld}

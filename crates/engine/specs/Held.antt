@@ -6,7 +6,7 @@ use mathlib.Core.List.{List}
 use Rattle.tables.specs.declared.Check.the-variants.{Clean}
 use Rattle.tables.specs.Layout.{taskCount, periodIn, costIn, deadlineIn, latestIn}
 use Rattle.tables.specs.Checks.{readCheck}
-use Rattle.reading.specs.Columns.{Holds}
+use Rattle.records.specs.Columns.{Holds}
 
 -- nothing of the table is refused, and four columns hold the numbers that are played
 pub record NumbersHeld (bytes periods costs deadlines latest : List ℕ) : Type 0 where

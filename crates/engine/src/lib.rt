@@ -8,13 +8,11 @@ ghost use Rattle.tables.specs.Layout.{taskCount, priorityIn};
 ghost use Rattle.tables.specs.Meaning.{TableRight};
 ghost use Rattle.tables.specs.Checks.{headCheck};
 ghost use Rattle.tables.specs.declared.Check.the-variants.{Clean};
-ghost use Rattle.reading.specs.Columns.{part, Lent};
+ghost use Rattle.records.specs.Columns.{part, Lent};
 ghost use Rattle.blocking.specs.Sweep.{Zeros};
 ghost use Rattle.answering.specs.Results.{resultOf};
 ghost use Rattle.engine.specs.Held.{NumbersHeld};
 ghost use Rattle.engine.specs.Outcome.{tiedAt, Played};
-use machine::largest;
-use machine::play_all;
 use model::Place;
 use reading::LARGE_BYTES;
 use reading::LARGE_ROOM;
@@ -33,6 +31,8 @@ use tables::Refusal;
 use tables::TASK_COUNT_AT;
 use tables::VERSION_AT;
 use tables::fields::count;
+use ticking::largest;
+use ticking::play_all;
 
 // Any bytes and any slice get a verdict. A refusal changes no word; otherwise words 0 to n - 1 are written, and later words stay.
 pub fn play(table: &[u8], answers: &mut [u32]) -> Verdict

@@ -1,10 +1,7 @@
 pub mod BitLaws
 pub mod WordLaws
 pub mod MachineLaws
-pub mod ReportLaws
 pub mod SameLaws
 pub mod StepLaws
 pub mod ReleaseLaws
-pub mod ServeLaws
-pub mod PlayLaws
 pub mod ExampleLaws

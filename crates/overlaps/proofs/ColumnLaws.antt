@@ -21,12 +21,12 @@ use Rattle.tables.specs.Refusals.{at}
 use Rattle.tables.specs.Checks.{readCheck}
 use Rattle.tables.proofs.OrderLaws.{read-decides, room-decides, all-pass}
 use Rattle.blocking.specs.Ceilings.{blockingOf}
-use Rattle.reading.specs.Columns.{RecordColumn, latestColumn, RowColumn, TableHeld}
+use Rattle.records.specs.Columns.{RecordColumn, latestColumn, RowColumn, TableHeld}
 use Rattle.answering.specs.Slices.{slice}
 use Rattle.response.proofs.DecodedLaws.{Ranks, decodedFrom, cost-is, blocked-is, period-is, deadline-is, loads-agree}
 use Rattle.overlaps.specs.declared.Found.{Found}
 use Rattle.overlaps.specs.declared.Found.the-variants.{Refused, Delayed, Schedulable}
-use Rattle.overlaps.specs.Overlaps.{Studied, longest, tried, studiedOf, longestOf, triedOf}
+use Rattle.jobs.specs.Overlaps.{Studied, longest, tried, studiedOf, longestOf, triedOf}
 use Rattle.overlaps.specs.Outcome.{isSchedulable, saidBy, saidAt, resultOf, pastCheck, isCalm, foundOf, answersAfter, triedWordsAfter, lending, leaving, PastOutcome}
 use Rattle.overlaps.specs.Columns.{studiedIn, longestIn, triedIn, AllFound}
 

@@ -15,10 +15,10 @@ use Rattle.model.proofs.Tests.{bool?, either-true, not-either}
 use Rattle.model.specs.Tables.{openWord}
 use Rattle.equation.specs.Laws.{IsSmallest}
 use Rattle.equation.proofs.Laws.{raisedNotAbove}
-use Rattle.overlaps.specs.Overlaps.{Studied, baseAt, limitAt, windowAt, responseAt, lateAt, endsAt, endsBy, endedAfter, longest, tried}
-use Rattle.overlaps.specs.Columns.{LongestBy}
+use Rattle.jobs.specs.Overlaps.{Studied, baseAt, limitAt, windowAt, responseAt, lateAt, endsAt, endsBy, endedAfter, longest, tried}
+use Rattle.jobs.specs.Slices.{LongestBy}
 use Rattle.overlaps.specs.Statements.{Responds, GoesOn, GoOnBefore, LateAt, StopsAt, IsLargest, EndsWith, LongestRight, PastEnds}
-use Rattle.overlaps.proofs.SearchLaws.{Going, window-is, window-small, window-high, no-window, response-is, goes-on, late-by, stopped-by, open-by}
+use Rattle.jobs.proofs.SearchLaws.{Going, window-is, window-small, window-high, no-window, response-is, goes-on, late-by, stopped-by, open-by}
 
 -- a solution that is the smallest is the only one that is
 same-smallest : (s : Studied) (q v w : ℕ) → IsSmallest (baseAt s q) (s .loads) v → IsSmallest (baseAt s q) (s .loads) w → v ≡ w

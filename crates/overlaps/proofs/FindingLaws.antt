@@ -10,14 +10,15 @@ use Rattle.model.specs.Search.{firstOf}
 use Rattle.model.proofs.First.{first-none}
 use Rattle.tables.specs.Refusals.{at}
 use Rattle.equation.specs.declared.Start.the-variants.{EveryCost}
-use Rattle.solver.specs.Marks.{PeriodsHigh, firstMarkAt, leastFrom, never}
-use Rattle.solver.proofs.PassLaws.{least-low}
+use Rattle.marks.specs.Marks.{PeriodsHigh, firstMarkAt, leastFrom, never}
+use Rattle.marks.proofs.PassLaws.{least-low}
 use Rattle.answering.specs.Slices.{Decoded, DecodedFits, GroupFound}
 use Rattle.answering.proofs.AnsweringLaws.{loads-are, loads-fit, solvable, begun}
 use Rattle.overlaps.specs.declared.Found.{Found}
 use Rattle.overlaps.specs.declared.Found.the-variants.{Schedulable}
 use Rattle.overlaps.specs.Outcome.{isSchedulable, saidBy, saidAt, resultOf}
-use Rattle.overlaps.specs.Columns.{studiedFrom, Beginnable, LongestBy, longestIn, triedIn}
+use Rattle.jobs.specs.Slices.{studiedFrom, Beginnable, LongestBy}
+use Rattle.overlaps.specs.Columns.{longestIn, triedIn}
 
 module _ (d : Decoded) (n : ℕ) where
   pub result-none : Schedulable ≡ resultOf (longestIn d n) 0

@@ -1,10 +1,7 @@
-pub mod SearchLaws
-pub mod TryingLaws
 pub mod FindingLaws
 pub mod ColumnLaws
 pub mod EndLaws
 pub mod ResultLaws
 pub mod Past
 pub mod Within
-pub mod ExampleLaws
 pub mod Versions

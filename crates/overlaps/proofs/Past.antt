@@ -26,7 +26,7 @@ use Rattle.tables.proofs.PlaceLaws.{refusal-place}
 use Rattle.tables.proofs.CheckLaws.{table-deserved, table-gives, table-right, table-clean}
 use Rattle.overlaps.specs.declared.Found.{Found}
 use Rattle.overlaps.specs.declared.Found.the-variants.{Refused, Delayed, Schedulable, Late, Open}
-use Rattle.overlaps.specs.Overlaps.{studiedOf, tried, longestOf, triedOf}
+use Rattle.jobs.specs.Overlaps.{studiedOf, tried, longestOf, triedOf}
 use Rattle.overlaps.specs.Outcome.{isSchedulable, saidBy, saidAt, resultOf, pastCheck, isCalm, foundOf, answersAfter, triedWordsAfter, Call, Left, leaving, PastOutcome}
 use Rattle.overlaps.specs.Numbers.{foundPlace}
 use Rattle.overlaps.specs.Statements as says

@@ -8,7 +8,7 @@ use lib.ListN.{length}
 use Rattle.model.specs.Lists.{filled, largestTo}
 use Rattle.tables.specs.Layout.{taskCount}
 use Rattle.tables.proofs.VersionLaws.{tasks-same, table-same, check-same, in-three}
-use Rattle.overlaps.specs.Overlaps.{longestOf, triedOf}
+use Rattle.jobs.specs.Overlaps.{longestOf, triedOf}
 use Rattle.overlaps.specs.Outcome.{resultOf, isCalm, foundFor, wordsAfter, foundOf, answersAfter, triedWordsAfter}
 use Rattle.overlaps.specs.Statements.{PastInVersionThree}
 

@@ -38,11 +38,11 @@ use Rattle.response.specs.Outcome as first
 use Rattle.response.specs.Statements.{Accepted}
 use Rattle.response.proofs.Demands.{answers-kept, verdict-given, answers-filled, result-is}
 use Rattle.overlaps.specs.declared.Found.the-variants.{Refused, Schedulable, Late}
-use Rattle.overlaps.specs.Overlaps.{Studied, baseAt, limitAt, windowAt, responseAt, studiedOf, tried, longestOf, triedOf}
+use Rattle.jobs.specs.Overlaps.{Studied, baseAt, limitAt, windowAt, responseAt, studiedOf, tried, longestOf, triedOf}
 use Rattle.overlaps.specs.Outcome.{isSchedulable, saidBy, saidAt, resultOf, pastCheck, lending, Left, PastOutcome}
-use Rattle.overlaps.specs.Columns.{LongestBy}
+use Rattle.jobs.specs.Slices.{LongestBy}
 use Rattle.overlaps.specs.Statements.{Calm, asFound, SameLeft, SameWithinPeriod}
-use Rattle.overlaps.proofs.SearchLaws.{Going, window-high, response-is, late-by, stopped-by}
+use Rattle.jobs.proofs.SearchLaws.{Going, window-high, response-is, late-by, stopped-by}
 use Rattle.overlaps.proofs.Past.{calm-holds, refused-is, words-are}
 
 -- a deadline within its period passes both tests or neither

@@ -18,7 +18,7 @@ use Rattle.tables.specs.Refusals.{at}
 use Rattle.tables.specs.Checks.{tableCheckSpanning}
 use Rattle.overlaps.specs.declared.Found.{Found}
 use Rattle.overlaps.specs.declared.Found.the-variants.{Refused, Delayed, Schedulable, Late, Open}
-use Rattle.overlaps.specs.Overlaps.{longestOf, triedOf}
+use Rattle.jobs.specs.Overlaps.{longestOf, triedOf}
 
 abbrev pub isSchedulable : Found → Bool
 isSchedulable (Refused refusal) = false

@@ -20,7 +20,7 @@ use Rattle.response.specs.Outcome as first
 use Rattle.response.specs.Versions.{asThree}
 use Rattle.overlaps.specs.declared.Found.{Found}
 use Rattle.overlaps.specs.declared.Found.the-variants.{Refused, Delayed, Schedulable, Late, Open}
-use Rattle.overlaps.specs.Overlaps.{Studied, baseAt, limitAt, studiedOf}
+use Rattle.jobs.specs.Overlaps.{Studied, baseAt, limitAt, studiedOf}
 use Rattle.overlaps.specs.Outcome.{Call, Left, lending, foundOf, answersAfter, triedWordsAfter, PastOutcome}
 
 -- R(q) is r: r + qT is "the smallest w equal to B + (1 + q)C plus interference"

@@ -7,15 +7,17 @@ ghost use Rattle.model.specs.Choice.{pick};
 ghost use Rattle.tables.specs.declared.Check.the-variants.{Clean};
 ghost use Rattle.tables.specs.Layout.{taskCount};
 ghost use Rattle.tables.specs.Checks.{headCheck};
-ghost use Rattle.reading.specs.Columns.{recordColumns, rowColumns, Lent, TableHeld};
+ghost use Rattle.records.specs.Columns.{recordColumns, rowColumns, Lent, TableHeld};
 ghost use Rattle.blocking.specs.Sweep.{Zeros};
-ghost use Rattle.solver.specs.Marks.{PeriodsHigh};
+ghost use Rattle.marks.specs.Marks.{PeriodsHigh};
 ghost use Rattle.answering.specs.Slices.{decoded, DecodedFits, slice};
 ghost use Rattle.overlaps.specs.Outcome.{isSchedulable, isCalm, saidBy, lending, leaving, PastOutcome};
 ghost use Rattle.overlaps.specs.Columns.{AllFound};
 ghost use Rattle.overlaps.specs.Numbers.{codeOf, foundPlace, packed, PackedOutcome};
 use answering::Group;
 use answering::group_of;
+use jobs::longest;
+use marks::least_first;
 use model::OPEN;
 use model::Place;
 use model::Ticks;
@@ -29,16 +31,11 @@ use reading::any_delay;
 use reading::is_large;
 use response::find_blocking;
 use response::has_room;
-use solver::least_first;
 use tables::Check;
 use tables::FOUR_PERIODS;
 use tables::Refusal;
 use tables::TASK_COUNT_AT;
 use tables::fields::count;
-
-mod jobs;
-
-use jobs::longest;
 
 // What is said of a table.
 pub enum Found {

@@ -1,3 +1,2 @@
 pub mod AnsweredLaws
 pub mod LongestLaws
-pub mod SampleTexts

@@ -6,19 +6,17 @@ use mathlib.Core.Path.{_≡_, refl, ap}
 use mathlib.Core.Logic.{inl, inr}
 use mathlib.Core.List.{List, _++_}
 use lib.ListN.{length, getD}
-use Rattle.model.specs.Lists.{tabulate, wordOf}
-use Rattle.model.specs.Search.{firstFrom}
+use Rattle.model.specs.Lists.{wordOf}
 use Rattle.model.specs.Tables.{Task, openWord, taskOf}
-use Rattle.tables.specs.Layout.{layoutFor, taskCount, tasksOf, tableOf}
+use Rattle.tables.specs.Layout.{taskCount, tasksOf, tableOf}
 use Rattle.tables.proofs.LayoutLaws.{task-is}
-use Rattle.encoding.specs.Bytes.{joined}
-use Rattle.printing.specs.Text.{bytesOf, decimalOf, lineWithNumber, taskLines, tasksText}
+use Rattle.printing.specs.Text.{bytesOf, lineWithNumber, tasksText}
 use Rattle.printing.specs.Answered.{zeros}
 use Rattle.printing.proofs.LengthLaws.{few-digits, place-line-long, refusal-long, Small}
 use Rattle.printing.proofs.LongestLaws.{refused-long, deadline-small, text-long, whole}
 use Rattle.overlaps.specs.declared.Found.{Found}
 use Rattle.overlaps.specs.declared.Found.the-variants.{Refused, Delayed, Schedulable, Late, Open}
-use Rattle.overlaps.specs.Overlaps.{studiedOf}
+use Rattle.jobs.specs.Overlaps.{studiedOf}
 use Rattle.overlaps.specs.Outcome.{Call, Left, lending, leaving, foundOf, answersAfter, triedWordsAfter}
 use Rattle.overlaps.specs.Numbers.{foundPlace}
 use Rattle.overlaps.specs.Statements.{LongestRight, Written, FoundRight}
@@ -26,7 +24,7 @@ use Rattle.overlaps.proofs.EndLaws.{answer-within, pastEnds}
 use Rattle.overlaps.proofs.Past.{cost-low, pastAnalysed, found-place}
 use Rattle.past_text.specs.Text.{pastTextOf}
 use Rattle.past_text.specs.Answered.{pastText}
-use Rattle.past_text.specs.Longest.{longestPast, PastTextFits, LongestPastReached, PastTextWhole}
+use Rattle.past_text.specs.Longest.{longestPast, PastTextFits, PastTextWhole}
 
 -- what is left for a task is open or at most its deadline, and at most 64 q are tried
 module _ (lent : Call) (result : Left) (written : Written lent result) where
@@ -72,10 +70,6 @@ pastTextFits lent result o = go (result .found) (pastAnalysed .right lent result
         judged-long lent result written (lineWithNumber (bytesOf "late ") (first .0)) (omega (arith, place-line-long (bytesOf "late ") (first .0) place))
     go (Open first) written place =
         judged-long lent result written (lineWithNumber (bytesOf "open ") (first .0)) (omega (arith, place-line-long (bytesOf "open ") (first .0) place))
-
-pub longestPastReached : LongestPastReached
-unfolding decimalOf firstFrom taskLines layoutFor tabulate joined
-longestPastReached = refl
 
 past-text-long : (bytes : List ℕ) → length (pastText bytes) ≤ longestPast
 unfolding pastText

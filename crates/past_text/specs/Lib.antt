@@ -1,4 +1,3 @@
 pub mod Text
 pub mod Answered
 pub mod Longest
-pub mod Samples

@@ -4,4 +4,3 @@ pub mod TextLaws
 pub mod AnsweredLaws
 pub mod LengthLaws
 pub mod LongestLaws
-pub mod SampleTexts

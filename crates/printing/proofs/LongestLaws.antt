@@ -10,7 +10,7 @@ use mathlib.Core.Logic.{inl, inr}
 use mathlib.Core.List.{List, _++_}
 use lib.ListN.{length, getD, take, length-append, length-take}
 use lib.Seq.{take-all}
-use Rattle.model.specs.Lists.{tabulate, total, wordOf, sumOf}
+use Rattle.model.specs.Lists.{total, wordOf, sumOf}
 use Rattle.model.specs.Search.{firstFrom}
 use Rattle.model.specs.Tables.{Task, taskOf, loadsOf}
 use Rattle.model.proofs.Tests.{ltb?}
@@ -18,11 +18,10 @@ use Rattle.model.proofs.Totals.{total-longer}
 use Rattle.tables.specs.declared.Refusal.{Refusal}
 use Rattle.tables.specs.declared.Refusal.the-variants.{TooShort, UnknownVersion, CountOutOfRange, LengthsDiffer, NumberOutOfRange, PriorityOutOfOrder, SectionRow, NoRoom, NotPlayable}
 use Rattle.tables.specs.Fields.{taskCountField, costField, deadlineField}
-use Rattle.tables.specs.Layout.{layoutFor, layoutOf, taskCount, recordStart, deadlineAt, deadlineIn, tasksOf, tableOf}
+use Rattle.tables.specs.Layout.{layoutOf, taskCount, recordStart, deadlineAt, deadlineIn, tasksOf, tableOf}
 use Rattle.tables.specs.Refusals.{numberOf, placeOf}
 use Rattle.tables.specs.Meaning.{TableRightSpanning, TableRight}
 use Rattle.tables.proofs.LayoutLaws.{layout-sound, task-is}
-use Rattle.encoding.specs.Bytes.{joined}
 use Rattle.equation.specs.declared.Start.{Start}
 use Rattle.equation.specs.Laws.{costOf}
 use Rattle.equation.specs.Starts.{firstTerm}
@@ -38,7 +37,7 @@ use Rattle.response.proofs.PlaceLaws.{verdict-place}
 use Rattle.printing.specs.Appended.{Appended}
 use Rattle.printing.specs.Text.{bytesOf, textOf, decimalOf, lineWithNumber, refusedLine, deadlineShown, taskLines, tasksText}
 use Rattle.printing.specs.Answered.{zeros, RoomForAll, answerText}
-use Rattle.printing.specs.Longest.{longest, TextFits, LongestReached, Whole, TextWhole}
+use Rattle.printing.specs.Longest.{longest, TextFits, Whole, TextWhole}
 use Rattle.printing.proofs.AppendLaws.{text-is, behind, part-length}
 use Rattle.printing.proofs.LengthLaws.{digitCount, few-digits, seven-digits, line-long, place-line-long, refusal-long, Small, lineRoom, lines-long}
 
@@ -175,10 +174,6 @@ textFits start lent result o = go (result .verdict) refl
     go (verdict.Late first) is =
         judged-long start lent result o (never is (λ r e. let z : _≡_ {A = ℕ} 0 1 = cc in omega arith))
         (lineWithNumber (bytesOf "late ") (first .0)) (omega (arith, place-line-long (bytesOf "late ") (first .0) (place is)))
-
-pub longestReached : LongestReached
-unfolding decimalOf firstFrom taskLines layoutFor tabulate joined
-longestReached = refl
 
 answer-text-long : (start : Start) (bytes : List ℕ) → length (answerText start bytes) ≤ longest
 unfolding answerText

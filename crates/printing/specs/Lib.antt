@@ -2,4 +2,3 @@ pub mod Appended
 pub mod Text
 pub mod Answered
 pub mod Longest
-pub mod Samples

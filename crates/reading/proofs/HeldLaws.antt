@@ -17,8 +17,8 @@ use Rattle.tables.specs.Checks.{headCheck, recordsRead}
 use Rattle.tables.proofs.LayoutLaws.{layout-sound}
 use Rattle.tables.proofs.CheckLaws.{head-right, body-right, read-right, records-all, rows-all}
 use Rattle.tables.proofs.OrderLaws.{read-clean}
-use Rattle.reading.specs.Columns.{RecordColumn, priorityColumn, periodColumn, costColumn, deadlineColumn, spreadColumn, latestColumn, RowColumn, placeColumn, semaphoreColumn, longestColumn, part, recordColumns, rowColumns, recordIn, rowIn, Lent, Holds, rowsReached, TableHeld}
-use Rattle.reading.proofs.ColumnLaws.{holds-filled, rows-long}
+use Rattle.records.specs.Columns.{RecordColumn, priorityColumn, periodColumn, costColumn, deadlineColumn, spreadColumn, latestColumn, RowColumn, placeColumn, semaphoreColumn, longestColumn, part, recordColumns, rowColumns, recordIn, rowIn, Lent, Holds, rowsReached, TableHeld}
+use Rattle.records.proofs.ColumnLaws.{holds-filled, rows-long}
 use Rattle.reading.proofs.StageLaws.{Left, column-room}
 
 -- An entry lends columns for as many tasks as the version allows: 32 where `is_large` says no, and else 200. With them it may read any

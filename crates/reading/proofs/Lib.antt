@@ -1,6 +1,3 @@
-pub mod PartLaws
-pub mod ColumnLaws
-pub mod RecordLaws
 pub mod RowLaws
 pub mod StageLaws
 pub mod HeldLaws

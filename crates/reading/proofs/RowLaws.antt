@@ -25,12 +25,13 @@ use Rattle.tables.specs.Refusals.{isClean, unless, orElse, firstIn, fieldsCheck
 use Rattle.tables.specs.Fields.{rowOrder, rowRefusal}
 use Rattle.tables.specs.Rules.{between, rowInOrder, rowAfter, rowTest}
 use Rattle.tables.specs.Checks.{rowCheck, rowsCheck, rowsRead}
-use Rattle.reading.specs.Columns.{Holds}
-use Rattle.reading.specs.Reading.{HeadRead, rowKey, atRow, rowFault}
+use Rattle.records.specs.Columns.{Holds}
+use Rattle.records.specs.Reading.{HeadRead}
+use Rattle.reading.specs.Rows.{rowKey, atRow, rowFault}
 use Rattle.tables.proofs.LayoutLaws.{start-small}
 use Rattle.tables.proofs.FieldLaws.{stops-at, goes-on, goes-through}
 use Rattle.tables.proofs.MeaningLaws.{between-means}
-use Rattle.reading.proofs.ColumnLaws.{sound, few-tasks, few-rows, rows-end}
+use Rattle.records.proofs.ColumnLaws.{sound, few-tasks, few-rows, rows-end}
 
 -- the key of the row before row k: 0 before the first, which is below every key
 pub keyBefore : List ℕ → ℕ → ℕ

@@ -17,8 +17,8 @@ use Rattle.tables.specs.Refusals.{isClean, orElse, firstIn}
 use Rattle.tables.specs.Checks.{headCheck, recordsCheck, rowsCheck, bodyCheck, readCheck, recordsRead, rowsRead}
 use Rattle.tables.proofs.CheckLaws.{records-all}
 use Rattle.tables.proofs.FieldLaws.{clean-only, last-decides}
-use Rattle.reading.specs.Columns.{RecordColumn, costColumn, RowColumn, recordColumns, recordIn, rowIn, Lent, Filled, rowsReached, Holds}
-use Rattle.reading.proofs.ColumnLaws.{holds-filled, records-long}
+use Rattle.records.specs.Columns.{RecordColumn, costColumn, RowColumn, recordColumns, recordIn, rowIn, Lent, Filled, rowsReached, Holds}
+use Rattle.records.proofs.ColumnLaws.{holds-filled, records-long}
 
 -- a check that is not clean decides
 stops : (check later : Check) → isClean check ≡ false → orElse check later ≡ check

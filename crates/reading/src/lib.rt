@@ -7,7 +7,7 @@ ghost use Rattle.model.specs.Lists.{largestTo, wordOf};
 ghost use Rattle.tables.specs.declared.Check.the-variants.{Clean};
 ghost use Rattle.tables.specs.Layout.{layoutOf};
 ghost use Rattle.tables.specs.Checks.{headCheck, readCheck, recordsRead};
-ghost use Rattle.reading.specs.Columns.{recordColumns, rowColumns, recordIn, rowIn, Lent, Filled, rowsReached};
+ghost use Rattle.records.specs.Columns.{recordColumns, rowColumns, recordIn, rowIn, Lent, Filled, rowsReached};
 use tables::Check;
 use tables::ROW_COUNT_AT;
 use tables::TASK_COUNT_AT;
@@ -15,7 +15,6 @@ use tables::VERSION_AT;
 use tables::fields::count;
 use tables::is_clean;
 
-pub mod records;
 pub mod rows;
 
 // Room for tasks: 32 of them, the limit of versions 1 and 2, or the 200 of version 3 (document 02, L9).

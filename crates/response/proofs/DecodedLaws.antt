@@ -22,10 +22,10 @@ use Rattle.tables.specs.Meaning.{TableRightSpanning}
 use Rattle.tables.specs.Checks.{readCheck}
 use Rattle.tables.specs.declared.Check.the-variants.{Clean}
 use Rattle.tables.proofs.LayoutLaws.{layout-sound, task-is, priority-at, tasks-count}
-use Rattle.reading.proofs.ColumnLaws.{holds-filled}
+use Rattle.records.proofs.ColumnLaws.{holds-filled}
 use Rattle.reading.proofs.HeldLaws.{held-right}
 use Rattle.equation.specs.declared.Start.{Start}
-use Rattle.solver.specs.Marks.{PeriodsHigh}
+use Rattle.marks.specs.Marks.{PeriodsHigh}
 use Rattle.equation.specs.Slices.{loadAt}
 use Rattle.blocking.specs.Ceilings.{section, blockingOf}
 use Rattle.blocking.specs.Slices.{ownerAt, topAt, sectionAt, blockingAt, RowsHeld}
@@ -36,7 +36,7 @@ use Rattle.answering.specs.Slices.{Decoded, decoded, loadsIn, answerIn, roundsI
 use Rattle.answering.specs.declared.Verdict.{Verdict}
 use Rattle.response.specs.Outcome.{lending, leaving, Outcome}
 use Rattle.response.proofs.OutcomeLaws.{answered}
-use Rattle.reading.specs.Columns.{RecordColumn, priorityColumn, periodColumn, costColumn, deadlineColumn, spreadColumn, latestColumn, RowColumn, placeColumn, semaphoreColumn, longestColumn, recordColumns, Lent, Holds, TableHeld}
+use Rattle.records.specs.Columns.{RecordColumn, priorityColumn, periodColumn, costColumn, deadlineColumn, spreadColumn, latestColumn, RowColumn, placeColumn, semaphoreColumn, longestColumn, recordColumns, Lent, Holds, TableHeld}
 
 pub same-load : (a b : Load) → a .period ≡ b .period → a .cost ≡ b .cost → a .spread ≡ b .spread → a ≡ b
 same-load a b period cost spread = λ i. record { period = period i; cost = cost i; spread = spread i }

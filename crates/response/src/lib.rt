@@ -8,7 +8,7 @@ ghost use Rattle.model.specs.Lists.{filled};
 ghost use Rattle.tables.specs.declared.Check.the-variants.{Clean};
 ghost use Rattle.tables.specs.Layout.{taskCount, tableOf};
 ghost use Rattle.tables.specs.Checks.{headCheck};
-ghost use Rattle.reading.specs.Columns.{recordColumns, rowColumns, Lent, TableHeld};
+ghost use Rattle.records.specs.Columns.{recordColumns, rowColumns, Lent, TableHeld};
 ghost use Rattle.blocking.specs.Ceilings.{blockingOf};
 ghost use Rattle.blocking.specs.Sweep.{Zeros};
 ghost use Rattle.response.specs.Verdicts.{codeOf, verdictPlace, packed};

@@ -1,4 +1,2 @@
 pub mod SolverLaws
-pub mod PassLaws
-pub mod MarkLaws
 pub mod RoundLaws

@@ -20,10 +20,10 @@ use Rattle.equation.specs.Demand.{demand}
 use Rattle.equation.specs.Laws.{costOf}
 use Rattle.equation.specs.Slices.{loads, LoadsFit}
 use Rattle.solver.specs.Solver.{Solvable, SolvedBy, Followable, FollowedBy}
-use Rattle.solver.specs.Invariant.{InLimits, Marked, NonePassed, places, Right}
-use Rattle.solver.specs.Marks.{raise, firstMarkFor, movedAt, moreAt, PeriodsHigh, Markable, Passable, Passed, Advanced, Begun}
-use Rattle.solver.proofs.PassLaws.{least-low}
-use Rattle.solver.proofs.MarkLaws.{marksRight}
+use Rattle.marks.specs.Invariant.{InLimits, Marked, NonePassed, places, Right}
+use Rattle.marks.specs.Marks.{raise, firstMarkFor, movedAt, moreAt, PeriodsHigh, Markable, Passable, Passed, Advanced, Begun}
+use Rattle.marks.proofs.PassLaws.{least-low}
+use Rattle.marks.proofs.MarkLaws.{marksRight}
 use Rattle.solver.proofs.SolverLaws.{Turn, turn-first, turn-late, turn-found, turn-on, gained}
 
 -- loads within the limits can be marked

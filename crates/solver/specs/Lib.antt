@@ -1,3 +1,1 @@
 pub mod Solver
-pub mod Marks
-pub mod Invariant

@@ -11,8 +11,8 @@ use Rattle.equation.specs.Answer.{answer}
 use Rattle.equation.specs.Sequence as sequence
 use Rattle.equation.specs.Laws.{NotAbove}
 use Rattle.equation.specs.Slices.{loads, LoadsFit}
-use Rattle.solver.specs.Marks.{PeriodsHigh}
-use Rattle.solver.specs.Invariant.{Right}
+use Rattle.marks.specs.Marks.{PeriodsHigh}
+use Rattle.marks.specs.Invariant.{Right}
 
 -- A start that is above no solution, and numbers within limits that those of a table keep (SPECIFICATION 2.5), the deadline also where 63 periods
 -- are added to it (SPECIFICATION 13.8; document 02, L8).

@@ -5,17 +5,11 @@ ghost use lib.Dec.{eqb, leb};
 ghost use lib.ListN.{length};
 ghost use Rattle.model.specs.Choice.{both};
 ghost use Rattle.equation.specs.Slices.{loads, LoadsFit};
-ghost use Rattle.solver.specs.Marks.{raise, Begun};
+ghost use Rattle.marks.specs.Marks.{raise, Begun};
 ghost use Rattle.solver.specs.Solver.{Solvable, SolvedBy, Followable, FollowedBy};
+use marks::Mark;
+use marks::Tally;
 use model::Ticks;
-
-mod marks;
-
-pub use marks::Mark;
-pub use marks::Tally;
-pub use marks::least_first;
-pub use marks::look_ahead;
-pub use marks::set_first;
 
 // Whether a task is late, its longest response time, 0 where it is, and the rounds spent on it.
 pub struct Solved {

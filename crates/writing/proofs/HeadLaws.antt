@@ -11,9 +11,9 @@ use Rattle.tables.specs.declared.Check.the-variants.{Clean}
 use Rattle.tables.specs.Layout.{layoutOf, taskCount, rowCount, recordFrom, rowFrom, recordStart, rowStart, taskAt, rowAt}
 use Rattle.tables.specs.Checks.{headCheck}
 use Rattle.tables.proofs.LayoutLaws.{record-inside, start-small}
-use Rattle.reading.specs.Reading.{HeadRead}
-use Rattle.reading.specs.Columns.{Lent}
-use Rattle.reading.proofs.ColumnLaws.{sound, few-tasks, few-rows, rows-end}
+use Rattle.records.specs.Reading.{HeadRead}
+use Rattle.records.specs.Columns.{Lent}
+use Rattle.records.proofs.ColumnLaws.{sound, few-tasks, few-rows, rows-end}
 use Rattle.reading.proofs.HeldLaws.{large-fits}
 
 -- columns for 200 tasks have room for any table

@@ -3,4 +3,3 @@ pub mod HeadLaws
 pub mod Forms
 pub mod LongestLaws
 pub mod LongTable
-pub mod SampleForms

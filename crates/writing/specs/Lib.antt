@@ -1,4 +1,3 @@
 pub mod Text
 pub mod Longest
 pub mod Statements
-pub mod Samples

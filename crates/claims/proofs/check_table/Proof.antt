@@ -61,5 +61,5 @@ check-table-spec =
     (λ c. search needs)
     (λ c. search needs)
     check-all-requires
-    (λ c. search needs)
+    (λ c. c .before .before .before .before .before .before .before .before .before .find-blocking .kept .1 .1 .1 .1 .0)
     returns)

@@ -61,8 +61,8 @@ find-spec =
     (λ c. search needs)
     (λ c. search needs)
     find-all-requires
-    (λ c. search needs)
-    (λ c. search needs)
-    (λ c. search needs)
-    (λ c. search needs)
+    (λ c. c .before .before .before .before .before .before .before .before .before .before .before .before .before .before .before .before .before .before .find-blocking .kept .1 .1 .1 .1 .0)
+    (λ c. c .before .before .before .before .before .before .find-all .kept .1 .1 .1 .1 .1 .1 .1 .1 .1 .1 .0)
+    (λ c. c .before .before .before .before .before .before .find-all .kept .1 .1 .1 .1 .1 .1 .1 .1 .0)
+    (λ c. c .before .before .before .before .before .before .find-all .kept .1 .1 .1 .1 .1 .1 .1 .1 .1 .0)
     returns)

@@ -3,7 +3,7 @@
 use native.Mathlib.Omega.{arith}
 use Rattle.model.proofs.Tests.{refuted, confirmed}
 use Rattle.tables.proofs.CheckLaws.{head-right}
-use Rattle.reading.specs.Columns.{costColumn}
+use Rattle.records.specs.Columns.{costColumn}
 use Rattle.reading.proofs.StageLaws.{lent-again, column-room, records-stop, costs-held, rows-decide}
 use borrow.Author.Needs.{needs}
 use Rattle.reading.proofs.read.Statement.{statement}

@@ -60,8 +60,8 @@ answer-spec =
     (λ c. search needs)
     (λ c. search needs)
     answer-all-requires
-    (λ c. search needs)
-    (λ c. search needs)
-    (λ c. search needs)
-    (λ c. search needs)
+    (λ c. c .before .before .before .before .before .before .before .before .before .before .before .before .before .before .before .before .before .before .find-blocking .kept .1 .1 .1 .1 .0)
+    (λ c. c .before .before .before .before .before .before .answer-all .kept .1 .1 .1 .1 .1 .1 .1 .1 .1 .1 .1 .0)
+    (λ c. c .before .before .before .before .before .before .answer-all .kept .1 .1 .1 .1 .1 .1 .1 .1 .1 .0)
+    (λ c. c .before .before .before .before .before .before .answer-all .kept .1 .1 .1 .1 .1 .1 .1 .1 .1 .1 .0)
     returns)

@@ -4,7 +4,7 @@ use Prim.Native.Nat.{_-_}
 use native.Mathlib.Omega.{arith}
 use Rattle.tables.specs.Layout.{taskAt}
 use Rattle.tables.proofs.CheckLaws.{head-right}
-use Rattle.reading.proofs.ColumnLaws.{sound}
+use Rattle.records.proofs.ColumnLaws.{sound}
 use Rattle.printing.proofs.AppendLaws.{long}
 use Rattle.writing.specs.Text.{taskLine}
 use Rattle.writing.proofs.LineLaws.{Lines, lines-none, lines-more, lines-all}

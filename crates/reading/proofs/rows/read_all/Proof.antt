@@ -6,8 +6,8 @@ use mathlib.Core.Path.{refl, sym, _∙_}
 use lib.ListN.{length-set}
 use Rattle.model.proofs.Tests.{refuted, confirmed}
 use Rattle.tables.proofs.FieldLaws.{clean-only}
-use Rattle.reading.specs.Columns.{part}
-use Rattle.reading.proofs.ColumnLaws.{Taking, tasks-fit, rows-fit, rows-end, taking-none, costs-are, rows-more, taking-at}
+use Rattle.records.specs.Columns.{part}
+use Rattle.records.proofs.ColumnLaws.{Taking, tasks-fit, rows-fit, rows-end, taking-none, costs-are, rows-more, taking-at}
 use Rattle.reading.proofs.RowLaws.{Scanning, scanning-none, costs-long, fault-of, row-near, as-row, row-wrong, scanning-more, scanning-all}
 use Rattle.reading.proofs.rows.read_all.Statement.{statement}
 use Rattle.reading.proofs.rows.read_all.Tie as tie

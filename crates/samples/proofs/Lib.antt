@@ -1,0 +1,5 @@
+pub mod LongestTexts
+pub mod SampleTexts
+pub mod PastSampleTexts
+pub mod PastExampleLaws
+pub mod SampleForms

@@ -1,0 +1,5 @@
+pub mod Longest
+pub mod Samples
+pub mod PastSamples
+pub mod PastExamples
+pub mod FormSamples

@@ -1,0 +1,3 @@
+pub mod ReportLaws
+pub mod ServeLaws
+pub mod PlayLaws
