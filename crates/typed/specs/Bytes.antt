@@ -1,4 +1,4 @@
--- The bytes of what the slices keep (SPECIFICATION 14.3). That they are those of what is typed is `BytesTyped` of specs/Answered.antt.
+-- The bytes of what the slices keep (SPECIFICATION 14.3). That they are those of what is typed is `TextAnswered` of specs/Answered.antt.
 -- Assumes nothing.
 use Prim.Native.Nat.{ℕ, _+_, _*_, _/_, _%_, _≤_}
 use mathlib.Core.List.{List, [], _∷_, _++_}

@@ -1,2 +1,4 @@
 pub mod Bytes
 pub mod Messages
+pub mod Answered
+pub mod Places

@@ -8,15 +8,41 @@ ghost use Rattle.tables.specs.Layout.{layoutFor};
 ghost use Rattle.encoding.specs.Bytes.{fourBytes, delayBytes, recordBytes, rowBytes, joined, headBytes};
 ghost use Rattle.printing.specs.Appended.{Appended};
 ghost use Rattle.typed.specs.Bytes.{taskFrom, rowFrom, lowTask, lowRow, delaysOf, headKept, versionKept, Roomy, bytesKept};
+ghost use Rattle.typed.specs.Answered.{Answered};
 ghost use Rattle.typed.specs.Messages.{messageOf, faultLine};
 use printing::append;
 use printing::append_with_number;
 use tables::layout::DelayFields;
 use typing::Counts;
 use typing::Fault;
+use typing::Line;
+use typing::State;
+
+pub mod places;
 
 // Bytes enough for any table that can be typed, and for the line of any fault.
 pub const LONGEST: usize = 4589;
+
+// What is put into the buffer, and where it ends: the table's bytes, or the line for a fault.
+pub enum Answer {
+    Bytes(usize),
+    Faulty(usize),
+}
+
+// The answer to a text that is gone through.
+pub fn respond(state: State, numbers: &[u32], out: &mut [u8]) -> Answer
+    requires { ⌜ Roomy (state .counts) ⌝ }
+    requires { ⌜ length (now numbers) ≡ 1393 ⌝ }
+    ensures { λ r. ⌜ Answered state (now (numbers .entry)) (now (out .entry)) r (now (out .exit)) ⌝ }
+{
+    let counts = state.counts;
+    let line = state.line;
+    match line {
+        Line::Blank => Answer::Bytes(table_bytes(counts, numbers, out)),
+        Line::Filling(_, _) => Answer::Bytes(table_bytes(counts, numbers, out)),
+        Line::Wrong(fault) => Answer::Faulty(fault_line(out, state.number, fault)),
+    }
+}
 
 // The table's bytes, put at the buffer's beginning; answers where they end.
 pub fn table_bytes(counts: Counts, numbers: &[u32], out: &mut [u8]) -> usize
@@ -33,7 +59,7 @@ pub fn table_bytes(counts: Counts, numbers: &[u32], out: &mut [u8]) -> usize
 }
 
 // The version that is stated, or the lowest that can hold the table.
-fn version_of(counts: Counts, stated: u32) -> u8
+pub fn version_of(counts: Counts, stated: u32) -> u8
     ensures { λ r. ⌜ r ≡ versionKept counts stated ⌝ }
 {
     if counts.stated {

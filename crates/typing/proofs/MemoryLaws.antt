@@ -247,3 +247,16 @@ fields-picked false line amount fields h = h
 pub word-fields : (settled : Spot) (byte : ℕ) (line : Line) (fields : List ℕ) {more : List ℕ} → length fields ≡ 6 →
     more ≡ pick (endsWord settled byte) (fieldsAfter line (settled .amount) fields) fields → length more ≡ 6
 word-fields settled byte line fields h p = ap length p ∙ fields-picked (endsWord settled byte) line (settled .amount) fields h
+
+-- and behind any bytes
+pub bounded-piece : (kept : Memory) (spot : Spot) (piece : List ℕ) (more : ℕ) → Bounded (kept .state) (length piece + more) →
+    Bounded (memoryAfter kept (heardIn spot piece) .state) more
+unfolding heardIn memoryAfter
+bounded-piece kept spot [] more b =
+    let e : 0 + more ≡ more = omega arith in
+    rw (← e) b
+bounded-piece kept spot (byte ∷ piece) more b =
+    let e : suc (length piece) + more ≡ suc (length piece + more) = omega arith in
+    rw (memory-append kept (heardBy spot byte) (heardIn (spotBy spot byte) piece))
+    (bounded-piece (memoryAfter kept (heardBy spot byte)) (spotBy spot byte) piece more
+    (bounded-byte kept spot byte (length piece + more) (rw (← e) b)))

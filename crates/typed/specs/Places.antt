@@ -1,0 +1,79 @@
+-- Which field stands at a byte of the table that is typed, and in which line of its text (SPECIFICATION 14.6). The proof is in
+-- proofs/PlaceLaws.antt.
+-- Assumes nothing.
+use Prim.Native.Nat.{ℕ, _+_, _-_, _*_, _/_, _%_, _<_}
+use mathlib.Core.Path.{_≡_}
+use mathlib.Core.List.{List, [], _++_}
+use lib.Dec.{eqb, ltb}
+use lib.ListN.{length, getD}
+use Rattle.model.specs.Choice.{pick, on}
+use Rattle.tables.specs.declared.layout.DelayFields.{DelayFields}
+use Rattle.tables.specs.declared.layout.DelayFields.the-variants.{Jitter, Pair}
+use Rattle.tables.specs.declared.layout.Layout.{Layout}
+use Rattle.tables.specs.Fields.{CountField, taskCountField, rowCountField, countRefusal, RecordField, periodField, costField, deadlineField, earliestField, latestField, priorityField, refusalInRecord, RowField, placeField, semaphoreField, longestField, orderField, refusalInRow}
+use Rattle.tables.specs.Layout.{layoutFor}
+use Rattle.tables.specs.Meaning.{Known}
+use Rattle.tables.specs.Refusals.{placeOf}
+use Rattle.printing.specs.Text.{bytesOf, withNumber}
+use Rattle.words.specs.Words.{eventsOf}
+use Rattle.typing.specs.declared.lines.Counts.{Counts}
+use Rattle.typing.specs.Reading.{Typed, Reading, given, faulty, readingOf}
+use Rattle.typing.specs.Kept.{numberAt, taskLineKept, rowLineKept, keptBehind, Ready}
+use Rattle.typed.specs.Bytes.{versionKept}
+use Rattle.typed.specs.Messages.{faultLine}
+
+-- `line 3: cost`, or `no line: number of tasks` for what stands in no line
+abbrev pub lineSaid : ℕ → List ℕ
+lineSaid line = pick (eqb line 0) (bytesOf "no line: ") (withNumber (bytesOf "line ") line ++ bytesOf ": ")
+
+abbrev pub said : ℕ → List ℕ → List ℕ
+said line name = (lineSaid line ++ name) ++ bytesOf "\n"
+
+-- the names of the fields, by the byte at which they stand in the head, in a record and in a row (SPECIFICATION 2)
+unfoldable pub headName : ℕ → List ℕ
+headName at =
+    pick (ltb at 1) (bytesOf "version") (pick (ltb at 3) (bytesOf "length") (pick (ltb at 4) (bytesOf "number of tasks") (bytesOf "number of sections")))
+
+abbrev pub delayName : DelayFields → ℕ → List ℕ
+delayName Jitter at = bytesOf "jitter"
+delayName Pair at = pick (ltb at 17) (bytesOf "earliest delay") (bytesOf "latest delay")
+
+unfoldable pub recordName : DelayFields → ℕ → List ℕ
+recordName delays at =
+    pick (ltb at 1) (bytesOf "priority")
+    (pick (ltb at 5) (bytesOf "period") (pick (ltb at 9) (bytesOf "cost") (pick (ltb at 13) (bytesOf "deadline") (delayName delays at))))
+
+unfoldable pub rowName : ℕ → List ℕ
+rowName at = pick (ltb at 1) (bytesOf "place") (pick (ltb at 2) (bytesOf "semaphore") (bytesOf "length"))
+
+-- the field at a byte, with the lines of the version, of each task and of each section; of the head only the version may stand in a line
+unfoldable pub headSaid : ℕ → ℕ → List ℕ
+headSaid versionLine at = said (on (ltb at 1) versionLine) (headName at)
+
+unfoldable pub rowSaid : ℕ → (ℕ → ℕ) → ℕ → List ℕ
+rowSaid count rowLine at = said (on (ltb (at / 6) count) (rowLine (at / 6))) (rowName (at % 6))
+
+unfoldable pub placeSaid : Layout → (tasks sections versionLine : ℕ) → (taskLine rowLine : ℕ → ℕ) → ℕ → List ℕ
+placeSaid layout tasks sections versionLine taskLine rowLine place =
+    pick (ltb place 5) (headSaid versionLine place)
+    (pick (ltb (place - 5) (layout .size * tasks))
+    (said (taskLine ((place - 5) / layout .size)) (recordName (layout .delays) ((place - 5) % layout .size)))
+    (rowSaid sections rowLine (place - 5 - layout .size * tasks)))
+
+-- by what the code keeps
+abbrev pub placeKept : Counts → ℕ → List ℕ → ℕ → List ℕ
+placeKept counts version places place =
+    placeSaid (layoutFor version) (counts .tasks) (counts .sections) (numberAt places 0) (taskLineKept places) (rowLineKept places) place
+
+-- by what is typed
+abbrev pub lineIn : List ℕ → ℕ → ℕ
+lineIn lines i = getD lines i 0
+
+abbrev pub placeTyped : ℕ → Typed → ℕ → List ℕ
+placeTyped version typed place =
+    placeSaid (layoutFor version) (length (typed .tasks)) (length (typed .rows)) (typed .versionLine) (lineIn (typed .taskLines)) (lineIn (typed .rowLines)) place
+
+-- a text, and a byte of its table
+abbrev pub placeFor : Reading → ℕ → List ℕ
+placeFor (given version typed) place = placeTyped version typed place
+placeFor (faulty line fault) place = faultLine line fault
