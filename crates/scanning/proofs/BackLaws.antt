@@ -31,10 +31,10 @@ outside-digit at byte rest p =
     let e : 10 * 0 + (byte - 48) ≡ byte - 48 = omega arith in
     sym (inside-digit at at 0 byte rest p (omega (arith, digit-range byte p)) ∙ ap (λ (v : ℕ). inside (suc at) at v rest) e ∙ sym (rw p))
 
-glyph-is : (d : ℕ) → d < 10 → glyph d ≡ 48 + d
+pub glyph-is : (d : ℕ) → d < 10 → glyph d ≡ 48 + d
 glyph-is d h = rw (lt-ltb d 10 h)
 
-glyph-digit : (n : ℕ) → isDigit (glyph (n % 10)) ≡ true
+pub glyph-digit : (n : ℕ) → isDigit (glyph (n % 10)) ≡ true
 glyph-digit n =
     let small : n % 10 < 10 = mod-lt n (zero-lt-suc 9) in
     rw (glyph-is (n % 10) small) (digit-here (48 + n % 10) (omega arith) (omega arith))
@@ -74,7 +74,7 @@ digits-begin (suc k) n at rest =
     rw (append-assoc (digits 10 (suc k) (n / 10)) (glyph (n % 10) ∷ []) rest) (digits-begin k (n / 10) at (glyph (n % 10) ∷ rest))
 
 -- how many digits a number has
-digits-of : (word : ℕ) → word ≤ largest → (k : ℕ) × (decimalOf word ≡ digits 10 (suc k) word) × (word < 10 ^ suc k)
+pub digits-of : (word : ℕ) → word ≤ largest → (k : ℕ) × (decimalOf word ≡ digits 10 (suc k) word) × (word < 10 ^ suc k)
 unfolding decimalOf
 digits-of word fits = go (firstFrom (isHeld word) 1 20) refl
   where

@@ -48,7 +48,7 @@ module _ (span other : ℕ) (more : span ≤ other) where
   fields-spanning task i latestField right = right
   fields-spanning task i priorityField right = right
 
-  table-spanning : {bytes : List ℕ} → TableRightSpanning span bytes → TableRightSpanning other bytes
+  pub table-spanning : {bytes : List ℕ} → TableRightSpanning span bytes → TableRightSpanning other bytes
   table-spanning {bytes} right =
       record {
         head = right .head;

@@ -54,7 +54,7 @@ delays-long earliest latest first last =
     ]
 
 -- a task whose numbers are those of a table that is not refused, and a section
-record SmallTask (t : Task) : Type 0 where
+pub record SmallTask (t : Task) : Type 0 where
   pub priority : t .priority ≤ 255
   pub period : t .period ≤ 1000000
   pub cost : t .cost ≤ 1000000
@@ -62,7 +62,7 @@ record SmallTask (t : Task) : Type 0 where
   pub earliest : t .earliest ≤ 1000000
   pub latest : t .latest ≤ 1000000
 
-record SmallRow (r : Row) : Type 0 where
+pub record SmallRow (r : Row) : Type 0 where
   pub place : r .place ≤ 255
   pub semaphore : r .semaphore ≤ 16
   pub longest : r .longest ≤ 1000000
@@ -146,10 +146,10 @@ form-long version table known fewTasks fewRows tasks rows =
 
 -- the numbers of a table that breaks no rule
 module _ (bytes : List ℕ) (are : AreBytes bytes) (right : TableRightSpanning 4 bytes) where
-  few-tasks : taskCount bytes ≤ 200
+  pub few-tasks : taskCount bytes ≤ 200
   few-tasks = omega (arith, right .head .counts taskCountField .high, layout-sound bytes (right .head .version) .few)
 
-  small-task : (i : ℕ) → i < taskCount bytes → SmallTask (taskAt bytes i)
+  pub small-task : (i : ℕ) → i < taskCount bytes → SmallTask (taskAt bytes i)
   small-task i h =
       record {
         priority = are .each _;
@@ -160,7 +160,7 @@ module _ (bytes : List ℕ) (are : AreBytes bytes) (right : TableRightSpanning 4
         latest = right .records i h latestField .high;
       }
 
-  small-row : (k : ℕ) → k < rowCount bytes → SmallRow (rowAt bytes k)
+  pub small-row : (k : ℕ) → k < rowCount bytes → SmallRow (rowAt bytes k)
   small-row k h =
       record {
         place = are .each _;
