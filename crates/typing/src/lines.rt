@@ -26,6 +26,9 @@ const LARGEST_BYTE: u64 = 255;
 
 const LARGEST_WORD: u64 = 4294967295;
 
+// The field of the latest delay, which is J.
+const LATEST: usize = 5;
+
 // What a line is. A task's line becomes one with jitter or with delays at that word.
 pub enum Kind {
     VersionLine,
@@ -194,7 +197,7 @@ pub fn field(kind: Kind, at: usize) -> usize
     match kind {
         Kind::VersionLine => at,
         Kind::TaskLine => at,
-        Kind::JitterLine => 5,
+        Kind::JitterLine => LATEST,
         Kind::DelaysLine => at,
         Kind::SectionLine => at,
     }
