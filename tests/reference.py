@@ -8,7 +8,8 @@ knows nothing of the equation. Sentences in double quotation marks are document 
 or L1's where the engine is spoken of, L3's where the places of refusals are, L4's
 where version 2 or delays are, L5's where the starts are, L6's where tasks that share a
 priority are, L7's where claims are, L8's where deadlines past the period are, and L9's where
-version 3 is.
+version 3 is. The text form of a table, whose rules are in docs/SPECIFICATION.md, is split into
+lines and each line into words, where the library goes through it byte by byte.
 
 Needs Python 3.7 or later and nothing else.
 """
@@ -616,6 +617,241 @@ def in_groups(tasks, *sizes):
 
 def listed_rows(*entries):
     return [Row(*entry) for entry in entries]
+
+
+# ---------------------------------------------------------------------------
+# The text form
+# ---------------------------------------------------------------------------
+
+class Kind(enum.IntEnum):
+    """What can be wrong with a text."""
+
+    UNKNOWN_WORD = 1
+    TOO_FEW = 2
+    TOO_MANY = 3
+    NOT_WHOLE = 4
+    TOO_LARGE = 5
+    TASK_BEHIND = 6
+    VERSION_BEHIND = 7
+    DELAYS_IN_ONE = 8
+    TOO_MANY_TASKS = 9
+    TOO_MANY_SECTIONS = 10
+
+
+COUNTS_MESSAGE = "numbers; version has 1, task 4, jitter 1, delays 2, section 3"
+MESSAGES = {
+    Kind.UNKNOWN_WORD: "unknown word; a line begins with version, task or section, and a task may "
+                       "have jitter or delays behind its deadline",
+    Kind.TOO_FEW: "too few " + COUNTS_MESSAGE,
+    Kind.TOO_MANY: "too many " + COUNTS_MESSAGE,
+    Kind.NOT_WHOLE: "not a whole number; write digits only",
+    Kind.TOO_LARGE: "number too large; version, priority, place and semaphore go up to 255, all "
+                    "others up to 4294967295",
+    Kind.TASK_BEHIND: "task behind a section; all tasks stand before the first section",
+    Kind.VERSION_BEHIND: "version must stand before every task and section, and only once",
+    Kind.DELAYS_IN_ONE: "version 1 has no delays; state version 2 or 3, or use jitter",
+    Kind.TOO_MANY_TASKS: "too many tasks; a table has at most 200",
+    Kind.TOO_MANY_SECTIONS: "too many sections; a table has at most 64",
+}
+
+
+class Unreadable(Exception):
+    """A text that is no table: the first line at fault, counted from 1, and its first fault."""
+
+    def __init__(self, line, kind):
+        super().__init__("line %d: %s" % (line, MESSAGES[kind]))
+        self.line = line
+        self.kind = kind
+
+
+class LineFault(Exception):
+    """The same inside a line, which does not know its number."""
+
+
+def fault_when(applies, kind):
+    if applies:
+        raise LineFault(kind)
+
+
+GREATEST_BYTE = 255
+# The greatest number in each place behind a word that begins a line, and behind those two that may
+# stand behind a task's deadline.
+LINE_NUMBERS = {
+    b"version": [GREATEST_BYTE],
+    b"task": [GREATEST_BYTE, GREATEST_WORD, GREATEST_WORD, GREATEST_WORD],
+    b"section": [GREATEST_BYTE, GREATEST_BYTE, GREATEST_WORD],
+}
+TAIL_NUMBERS = {b"jitter": [GREATEST_WORD], b"delays": [GREATEST_WORD, GREATEST_WORD]}
+
+
+def words_of(line):
+    """No other byte than a blank or a tab parts words, a lonely carriage return neither."""
+    return re.findall(rb"[^ \t]+", line.partition(b"#")[0])
+
+
+def numbered_lines(text):
+    """The lines that have a word, each with its number."""
+    # One carriage return is part of a line's end; of two the first is not. The text's end ends a
+    # line as a line feed does.
+    lines = (text + b"\n").replace(b"\r\n", b"\n").split(b"\n")
+    for number, line in enumerate(lines, 1):
+        words = words_of(line)
+        if words:
+            yield number, words
+
+
+def typed_number(word, greatest):
+    # Bytes that are digits in other writings than ASCII are none to isdigit.
+    fault_when(not word.isdigit(), Kind.NOT_WHOLE)
+    # No number of more digits than the greatest one is turned into an int.
+    digits = word.lstrip(b"0") or b"0"
+    fault_when(len(digits) > len(str(greatest)) or int(digits) > greatest, Kind.TOO_LARGE)
+    return int(digits)
+
+
+def typed_numbers(words, limits):
+    """As many numbers as there are limits, and the words behind them."""
+    numbers = [typed_number(word, limit) for word, limit in zip(words, limits)]
+    fault_when(len(numbers) < len(limits), Kind.TOO_FEW)
+    return numbers, words[len(limits):]
+
+
+def end_line(words):
+    """Nothing may stand here."""
+    if words:
+        raise LineFault(Kind.TOO_MANY if words[0].isdigit() else Kind.UNKNOWN_WORD)
+
+
+class TypedTable:
+    """What the lines of a text have said so far, and where each thing stands."""
+
+    def __init__(self):
+        self.version = None
+        self.version_line = None
+        self.tasks = []
+        self.task_lines = []
+        self.rows = []
+        self.row_lines = []
+        self.has_delays = False
+
+    def take(self, number, words):
+        first, rest = words[0], words[1:]
+        fault_when(first not in LINE_NUMBERS, Kind.UNKNOWN_WORD)
+        {b"version": self.take_version, b"task": self.take_task,
+         b"section": self.take_section}[first](number, rest)
+
+    def take_version(self, number, words):
+        before = self.tasks or self.rows or self.version is not None
+        fault_when(before, Kind.VERSION_BEHIND)
+        numbers, rest = typed_numbers(words, LINE_NUMBERS[b"version"])
+        end_line(rest)
+        self.version, self.version_line = numbers[0], number
+
+    def take_task(self, number, words):
+        fault_when(self.rows, Kind.TASK_BEHIND)
+        fault_when(len(self.tasks) == MOST_TASKS, Kind.TOO_MANY_TASKS)
+        numbers, rest = typed_numbers(words, LINE_NUMBERS[b"task"])
+        self.tasks.append(Task(*numbers, *self.take_tail(rest)))
+        self.task_lines.append(number)
+
+    def take_tail(self, words):
+        """The earliest and the latest delay."""
+        if not words or words[0] not in TAIL_NUMBERS:
+            end_line(words)
+            return [0, 0]
+        fault_when(words[0] == b"delays" and self.version == 1, Kind.DELAYS_IN_ONE)
+        numbers, rest = typed_numbers(words[1:], TAIL_NUMBERS[words[0]])
+        end_line(rest)
+        self.has_delays = self.has_delays or words[0] == b"delays"
+        return ([0] + numbers)[-2:]
+
+    def take_section(self, number, words):
+        fault_when(len(self.rows) == MOST_ROWS, Kind.TOO_MANY_SECTIONS)
+        numbers, rest = typed_numbers(words, LINE_NUMBERS[b"section"])
+        end_line(rest)
+        self.rows.append(Row(*numbers))
+        self.row_lines.append(number)
+
+    def version_meant(self):
+        if self.version is not None:
+            return self.version
+        if len(self.tasks) > MOST_BEFORE:
+            return 3
+        return 2 if self.has_delays else 1
+
+
+# Where what a text says stands: the line of its version, or None, of each task and of each row.
+Lines = collections.namedtuple("Lines", "version tasks rows")
+
+
+def read_text(text):
+    """The version, the tasks, the rows and their lines; or raises Unreadable."""
+    typed = TypedTable()
+    for number, words in numbered_lines(text):
+        try:
+            typed.take(number, words)
+        except LineFault as fault:
+            raise Unreadable(number, fault.args[0])
+    return (typed.version_meant(), typed.tasks, typed.rows,
+            Lines(typed.version_line, typed.task_lines, typed.row_lines))
+
+
+# A table of no known version states a length without its records, which are written as version 1's.
+NO_VERSION = Layout(0, 0, LAYOUTS[1].fields)
+
+
+def typed_bytes(version, tasks, rows):
+    layout = LAYOUTS.get(version, NO_VERSION)
+    head = bytes([version]) + table_length(layout, len(tasks), len(rows)).to_bytes(2, "big")
+    return (head + bytes([len(tasks), len(rows)])
+            + b"".join(task_bytes(layout, task) for task in tasks)
+            + b"".join(map(row_bytes, rows)))
+
+
+def bytes_of_text(text):
+    return typed_bytes(*read_text(text)[:3])
+
+
+TEXT_HEAD = "# task PRIORITY PERIOD COST DEADLINE; section PLACE SEMAPHORE LENGTH"
+
+
+def written_task(task):
+    line = "task %d %d %d %d" % task[:4]
+    if task.earliest:
+        return line + " delays %d %d" % (task.earliest, task.latest)
+    return line + " jitter %d" % task.latest if task.latest else line
+
+
+def write_text(data):
+    """The text form of a table's bytes; or raises Refused, with deadlines of up to four periods."""
+    tasks, rows = read_bytes(data, PERIODS_PAST)
+    return lines_text([TEXT_HEAD, "version %d" % data[0], *map(written_task, tasks),
+                       *("section %d %d %d" % row for row in rows)]).encode("ascii")
+
+
+HEAD_FIELDS = ["version", "length", "length", "number of tasks", "number of sections"]
+# The bytes of each field of a task and of a row, one behind the other.
+DELAY_NAMES = {True: ["earliest delay"] * 4 + ["latest delay"] * 4, False: ["jitter"] * 4}
+ROW_NAMES = ["place", "semaphore"] + ["length"] * 4
+
+
+def task_names(version):
+    has_earliest = "earliest" in LAYOUTS.get(version, NO_VERSION).fields
+    return (["priority"] + ["period"] * 4 + ["cost"] * 4 + ["deadline"] * 4
+            + DELAY_NAMES[has_earliest])
+
+
+def fields_of_text(text):
+    """For each byte of a text's table: the line that it comes from, or None, and its field."""
+    version, _, _, lines = read_text(text)
+    head = [(lines.version, HEAD_FIELDS[0])] + [(None, name) for name in HEAD_FIELDS[1:]]
+    tasks = [(line, name) for line in lines.tasks for name in task_names(version)]
+    return head + tasks + [(line, name) for line in lines.rows for name in ROW_NAMES]
+
+
+def text_line(text, place):
+    line, name = fields_of_text(text)[place]
+    return "no line: %s" % name if line is None else "line %d: %s" % (line, name)
 
 
 # ---------------------------------------------------------------------------
@@ -3507,6 +3743,309 @@ def entry_text(number, entry):
 
 
 # ---------------------------------------------------------------------------
+# Made texts
+# ---------------------------------------------------------------------------
+
+# Lines with a fault, wherever they stand, with the fault that is told.
+FAULTY_LINES = [
+    *((line, Kind.UNKNOWN_WORD) for line in (
+        b"x", b"9", b"Task 1 9 5 9", b"TASK 1 9 5 9", b"tas 1 9 5 9", b"taskx 1 9 5 9",
+        b"tasks 1 9 5 9", b"task1 9 5 9", b"sections 0 1 1", b"sectionx 0 1 1", b"sectio 0 1 1",
+        b"sectionsectionsection 0 1 1", b"versions 1", b"versio 1", b"jitter 3", b"delays 1 2",
+        b"\xef\xbb\xbftask 1 9 5 9", b"\xc2\xa0task 1 9 5 9", b"\x00", b"\x00task 1 9 5 9",
+        b"task\x00 1 9 5 9", b"\rtask 1 9 5 9", b"task\r 1 9 5 9", b"task\x0b1 9 5 9", b"\x0c",
+        b"t\xc3\xa4sk 1 9 5 9", b"\xff", b"; task 1 9 5 9", b"x" * 1000,
+        b"task 1 9 5 9 x", b"task 1 9 5 9 Jitter 1", b"task 1 9 5 9 jitters 1",
+        b"task 1 9 5 9 jitter 1 x", b"task 1 9 5 9 jitter 1 jitter 1",
+        b"task 1 9 5 9 jitter 1 delays 1 2", b"task 1 9 5 9 delays 1 2 jitter 1",
+        b"task 1 9 5 9 task 1 9 5 9", b"task 1 9 5 9 -1", b"task 1 9 5 9 \r\r",
+        b"task 1 9 5 9 \x00",
+        b"section 0 1 1 x", b"section 0 1 1 jitter 1", b"section 0 1 1 delays 1 2")),
+    *((line, Kind.TOO_FEW) for line in (
+        b"task", b"task 1", b"task 1 9", b"task 1 9 5", b"task 1 9 5 9 jitter",
+        b"task 1 9 5 9 delays", b"task 1 9 5 9 delays 1", b"section", b"section 0", b"section 0 1",
+        b"task#1 9 5 9", b"task 1 9 5 # 9", b"task 1 9 5 9 jitter # 1")),
+    *((line, Kind.TOO_MANY) for line in (
+        b"task 1 9 5 9 0", b"task 1 9 5 9 0 jitter 1", b"task 1 9 5 9 4294967296",
+        b"task 1 9 5 9 jitter 1 2", b"task 1 9 5 9 delays 1 2 3", b"section 0 1 1 1")),
+    *((line, Kind.NOT_WHOLE) for line in (
+        b"task x 9 5 9", b"task 1 x 5 9", b"task 1 9 x 9", b"task 1 9 5 x", b"task 1 9 5 jitter",
+        b"task 1 9 5 jitter 1", b"task 1 9 5 9 jitter x", b"task 1 9 5 9 jitter jitter 1",
+        b"task 1 9 5 9 delays x 2", b"task 1 9 5 9 delays 1 x", b"section x 1 1", b"section 0 x 1",
+        b"section 0 1 x", b"task -1 9 5 9", b"task +1 9 5 9", b"task 1 9.0 5 9", b"task 1, 9, 5, 9",
+        b"task 0x1 9 5 9", b"task 1 9 5 9ms", b"task 1 1_000 5 9", b"task 1 9 5 1e3",
+        b"task 1\r 9 5 9", b"task 1 9 5 9\r\r", b"task 1 9\x00 5 9", b"task 1 9 5 9\xc2\xa0",
+        b"task 1 \xd9\xa9 5 9", b"task 1 \xb2 5 9", b"task 1 9 5 task", b"section 0 1 section",
+        # the first fault of a line counts
+        b"task x 4294967296 5 9", b"task 1 9 x", b"task 99999999999x 9 5 9")),
+    *((line, Kind.TOO_LARGE) for line in (
+        b"task 256 9 5 9", b"task 1 4294967296 5 9", b"task 1 9 4294967296 9",
+        b"task 1 9 5 4294967296", b"task 1 9 5 9 jitter 4294967296",
+        b"task 1 9 5 9 delays 4294967296 0", b"task 1 9 5 9 delays 0 4294967296",
+        b"section 256 1 1", b"section 0 256 1", b"section 0 1 4294967296",
+        b"task 0000256 9 5 9", b"task 1 9 5 00042949672960", b"task 1 9 5 18446744073709551617",
+        b"task 1 9 5 1" + b"0" * 5000,
+        # the first fault of a line counts
+        b"task 256", b"task 256 x 5 9", b"task 1 4294967296", b"section 256 1")),
+]
+# The same for lines that may not stand behind a task.
+FAULTY_VERSIONS = [
+    (b"version", Kind.TOO_FEW), (b"version # 1", Kind.TOO_FEW), (b"version 1 1", Kind.TOO_MANY),
+    (b"version 1 256", Kind.TOO_MANY), (b"version 256", Kind.TOO_LARGE),
+    (b"version 4294967297", Kind.TOO_LARGE), (b"version x", Kind.NOT_WHOLE),
+    (b"version 1.0", Kind.NOT_WHOLE), (b"version -1", Kind.NOT_WHOLE),
+    (b"version 1 x", Kind.UNKNOWN_WORD), (b"version 1 task 1 9 5 9", Kind.UNKNOWN_WORD),
+]
+TASK_LINE = b"task 1 9 5 9\n"
+SECTION_LINE = b"section 0 1 1\n"
+# Faults of a line by what stands before it, each with the line that is told.
+FAULTY_BEHIND = [
+    (TASK_LINE + SECTION_LINE + TASK_LINE, 3, Kind.TASK_BEHIND),
+    (SECTION_LINE + b"task", 2, Kind.TASK_BEHIND),
+    (SECTION_LINE + b"task x 256", 2, Kind.TASK_BEHIND),
+    (TASK_LINE * 200 + TASK_LINE, 201, Kind.TOO_MANY_TASKS),
+    (TASK_LINE * 200 + b"task x", 201, Kind.TOO_MANY_TASKS),
+    (b"version 1\n" + TASK_LINE * 201, 202, Kind.TOO_MANY_TASKS),
+    (TASK_LINE * 200 + SECTION_LINE + TASK_LINE, 202, Kind.TASK_BEHIND),
+    (TASK_LINE + SECTION_LINE * 65, 66, Kind.TOO_MANY_SECTIONS),
+    (SECTION_LINE * 64 + b"section x", 65, Kind.TOO_MANY_SECTIONS),
+    (SECTION_LINE * 64 + TASK_LINE, 65, Kind.TASK_BEHIND),
+    (SECTION_LINE * 64 + b"version 1", 65, Kind.VERSION_BEHIND),
+    (TASK_LINE + b"version 1", 2, Kind.VERSION_BEHIND),
+    (SECTION_LINE + b"version 1", 2, Kind.VERSION_BEHIND),
+    (b"version 1\nversion 1\n", 2, Kind.VERSION_BEHIND),
+    (b"version 0\n\nversion 256\n", 3, Kind.VERSION_BEHIND),
+    (TASK_LINE + b"version x", 2, Kind.VERSION_BEHIND),
+    (TASK_LINE + b"version", 2, Kind.VERSION_BEHIND),
+    (b"version 1\ntask 1 9 5 9 delays 1 2", 2, Kind.DELAYS_IN_ONE),
+    (b"version 001\ntask 1 9 5 9 delays 1 2", 2, Kind.DELAYS_IN_ONE),
+    (b"version 1\n" + TASK_LINE + b"task 1 9 5 9 delays", 3, Kind.DELAYS_IN_ONE),
+    (b"version 1\ntask 1 9 5 9 delays x", 2, Kind.DELAYS_IN_ONE),
+    (b"version 1\ntask 1 9 5 x delays 1 2", 2, Kind.NOT_WHOLE),
+    (b"version 1\ntask 1 9 5 9 1 delays 1 2", 2, Kind.TOO_MANY),
+    (b"version 1\ntask 1 9 5 9 jitter 1 delays 1 2", 2, Kind.UNKNOWN_WORD),
+    # the first line with a fault is told
+    (b"task 1\nx\n", 1, Kind.TOO_FEW),
+    (TASK_LINE + b"task 256 9 5 9\ntask\n", 2, Kind.TOO_LARGE),
+    # line ends
+    (b"task 1 9 5 9\r\ntask 1\r\n", 2, Kind.TOO_FEW),
+    (b"\r\n\r\nx", 3, Kind.UNKNOWN_WORD),
+    (b"task 1 9 5 9\rtask 1 9 5 9\r", 1, Kind.NOT_WHOLE),
+    (b"task 1 9 5 9\n\rtask 1 9 5 9\n", 2, Kind.UNKNOWN_WORD),
+    (b"task 1 9 5 9\n\r\r\n", 2, Kind.UNKNOWN_WORD),
+    (b"task 1 9 5 9\n\r\r", 2, Kind.UNKNOWN_WORD),
+    # where a comment begins and ends
+    (b"# task\ntask # 1 9 5 9\n", 2, Kind.TOO_FEW),
+    (b"ta#sk 1 9 5 9\n", 1, Kind.UNKNOWN_WORD),
+    (b"# \xff\x00\r x\n\xff\n", 2, Kind.UNKNOWN_WORD),
+    (b"#" * 100000 + b"\nx", 2, Kind.UNKNOWN_WORD),
+    (b"x" * 100000, 1, Kind.UNKNOWN_WORD),
+    (b"task 1 9 5 " + b"9" * 100000, 1, Kind.TOO_LARGE),
+    (b"task 1 9 5 9 " + b"9" * 100000, 1, Kind.TOO_MANY),
+    (b"task 1 9 5 " + b"9" * 100000 + b"x", 1, Kind.NOT_WHOLE),
+    (b" " * 100000 + b"task" + b"\t" * 100000, 1, Kind.TOO_FEW),
+    (b"\n" * 100000 + b"task", 100001, Kind.TOO_FEW),
+]
+ONE = [Task(1, 9, 5, 9, 0, 0)]
+DELAYED = [Task(1, 9, 5, 9, 3, 4)]
+TOP = GREATEST_WORD
+# Texts that can be read, with the version, the tasks and the rows that are meant.
+READ_TEXTS = [
+    (b"", 1, [], []),
+    (b"\n\n\n", 1, [], []),
+    (b"\r", 1, [], []),
+    (b" \t\r\n# a comment", 1, [], []),
+    (b"version 2", 2, [], []),
+    (b"version 3\r\n", 3, [], []),
+    (TASK_LINE, 1, ONE, []),
+    (b"task 1 9 5 9", 1, ONE, []),
+    (b"task 1 9 5 9\r", 1, ONE, []),
+    (b"task 1 9 5 9\r\n", 1, ONE, []),
+    (b"\ttask\t1 \t 9  5\t9 \t\n", 1, ONE, []),
+    (b"task 1 9 5 9#9", 1, ONE, []),
+    (b"task 1 9 5 9 # jitter x", 1, ONE, []),
+    (b"# \xe2\x82\xac \xff \x00\rtask x\ntask 1 9 5 9 # \x80\x00\n", 1, ONE, []),
+    (b"#" * 100000 + b"\n" + TASK_LINE, 1, ONE, []),
+    (b"task 001 0000000000009 5 " + b"0" * 5000 + b"9 jitter 00", 1, ONE, []),
+    (b"task 1 9 5 9 jitter 0", 1, ONE, []),
+    (b"task 1 9 5 9 jitter 4", 1, [ONE[0]._replace(latest=4)], []),
+    (b"version 2\ntask 1 9 5 9 jitter 4", 2, [ONE[0]._replace(latest=4)], []),
+    (b"task 1 9 5 9 delays 3 4", 2, DELAYED, []),
+    (b"task 1 9 5 9 delays 0 0", 2, ONE, []),
+    (b"task 1 9 5 9 jitter 4\ntask 1 9 5 9 delays 3 4", 2, [ONE[0]._replace(latest=4)] + DELAYED,
+     []),
+    (b"task 1 9 5 9 delays 4 3", 2, [ONE[0]._replace(earliest=4, latest=3)], []),
+    (b"version 3\ntask 1 9 5 9 delays 3 4", 3, DELAYED, []),
+    (b"version 3\n" + TASK_LINE, 3, ONE, []),
+    (b"version 00003\n" + TASK_LINE, 3, ONE, []),
+    (b"version 1 # of three\n\n" + TASK_LINE + b"\n" + SECTION_LINE, 1, ONE, [Row(0, 1, 1)]),
+    (b"task 0 0 0 0\nsection 0 0 0\n", 1, [Task(0, 0, 0, 0, 0, 0)], [Row(0, 0, 0)]),
+    (b"task 255 %d %d %d jitter %d\nsection 255 255 %d" % ((TOP,) * 5), 1,
+     [Task(255, TOP, TOP, TOP, 0, TOP)], [Row(255, 255, TOP)]),
+    (b"task 255 %d %d %d delays %d %d" % ((TOP,) * 5), 2, [Task(255, TOP, TOP, TOP, TOP, TOP)], []),
+    (b"task 1 16777216 65536 256\n", 1, [Task(1, 16777216, 65536, 256, 0, 0)], []),
+    (SECTION_LINE * 64, 1, [], [Row(0, 1, 1)] * 64),
+    (TASK_LINE + SECTION_LINE * 64, 1, ONE, [Row(0, 1, 1)] * 64),
+    (TASK_LINE * 32, 1, ONE * 32, []),
+    (TASK_LINE * 33, 3, ONE * 33, []),
+    (b"version 1\n" + TASK_LINE * 33, 1, ONE * 33, []),
+    (b"version 2\n" + TASK_LINE * 33, 2, ONE * 33, []),
+    (TASK_LINE * 32 + b"task 1 9 5 9 delays 3 4", 3, ONE * 32 + DELAYED, []),
+    (TASK_LINE * 31 + b"task 1 9 5 9 delays 3 4", 2, ONE * 31 + DELAYED, []),
+    (TASK_LINE * 200 + SECTION_LINE * 64, 3, ONE * 200, [Row(0, 1, 1)] * 64),
+    (b"version 1\n" + TASK_LINE * 200 + SECTION_LINE * 64, 1, ONE * 200, [Row(0, 1, 1)] * 64),
+]
+# A table of a version that is not known: its length counts the rows alone.
+OTHER_RECORD = bytes([1, 0, 0, 0, 9, 0, 0, 0, 5, 0, 0, 0, 9])
+UNKNOWN_VERSIONS = [
+    (b"version 0", bytes([0, 0, 5, 0, 0])),
+    (b"version 0\n" + TASK_LINE, bytes([0, 0, 5, 1, 0]) + OTHER_RECORD + bytes(4)),
+    (b"version 0\ntask 1 9 5 9 delays 7 0\n", bytes([0, 0, 5, 1, 0]) + OTHER_RECORD + bytes(4)),
+    (b"version 4\ntask 1 9 5 9 jitter 7", bytes([4, 0, 5, 1, 0]) + OTHER_RECORD
+     + bytes([0, 0, 0, 7])),
+    (b"version 9\ntask 1 9 5 9 delays 3 4\n" + SECTION_LINE,
+     bytes([9, 0, 11, 1, 1]) + OTHER_RECORD + bytes([0, 0, 0, 4, 0, 1, 0, 0, 0, 1])),
+    (b"version 255\n" + TASK_LINE * 33,
+     bytes([255, 0, 5, 33, 0]) + (OTHER_RECORD + bytes(4)) * 33),
+]
+
+
+def faulty_texts():
+    """Each with the line and the kind that are told. A fault is tried in the first line and in a
+    later one."""
+    for line, kind in FAULTY_LINES + FAULTY_VERSIONS:
+        yield line + b"\n", 1, kind
+    for line, kind in FAULTY_LINES:
+        yield b"# one\r\n\ntask 9 9 5 9 jitter 3\n" + line + b"\n\nx\n", 4, kind
+    for line, kind in FAULTY_VERSIONS:
+        yield b"\n\t# two\n" + line, 3, kind
+    yield from FAULTY_BEHIND
+
+
+def readable_texts():
+    """Each with its bytes."""
+    for text, version, tasks, rows in READ_TEXTS:
+        yield text, Draft(tasks, rows, version).data()
+    yield from UNKNOWN_VERSIONS
+
+
+def loose_blank(generator):
+    return generator.pick([b" "] * 6 + [b"\t", b"  ", b" \t ", b"     "])
+
+
+def loose_number(generator, number):
+    return b"0" * generator.pick([0] * 8 + [1, 7]) + b"%d" % number
+
+
+def loose_line(generator, words):
+    """The words with blanks between them, perhaps a comment, and either line end."""
+    line = generator.pick([b""] * 6 + [b" ", b"\t"])
+    for number, word in enumerate(words):
+        line += (loose_blank(generator) if number else b"") + word
+    comment = generator.pick([b""] * 5 + [b" ", b"#", b"# task 1 9 5 9", b"\t# \xc3\xa4\x00\r#"])
+    return line + comment + generator.pick([b"\n", b"\n", b"\n", b"\r\n"])
+
+
+def loose_task(generator, task, version):
+    numbers = [loose_number(generator, number) for number in task]
+    delays = [b"delays"] + numbers[4:]
+    jitter = [b"jitter"] + numbers[5:]
+    ways = [delays] if task.earliest else [jitter] if version == 1 else [jitter, delays]
+    if not task.latest:
+        ways.append([])
+    return [b"task"] + numbers[:4] + generator.pick(ways)
+
+
+def loose_lines(generator, tasks, rows, version):
+    """The words of each line of a text for this table, which states its version."""
+    lines = [[b"version", loose_number(generator, version)]]
+    lines += [loose_task(generator, task, version) for task in tasks]
+    return lines + [[b"section"] + [loose_number(generator, number) for number in row]
+                    for row in rows]
+
+
+def loose_text(generator, lines):
+    empty = [loose_line(generator, []) for _ in range(2)]
+    text = b"".join(generator.pick([b""] * 5 + empty) + loose_line(generator, words)
+                    for words in lines)
+    return text.rstrip(b"\n") if generator.chance(1, 4) else text
+
+
+def drawn_table(generator):
+    """The version, the tasks and the rows of a table that is not refused."""
+    version = generator.pick([1, 2, 3])
+    make = generator.pick([any_small_table, any_tied_table, any_past_table])
+    return (version, *make(generator, version))
+
+
+def drawn_texts(generator, how_many):
+    """Each with its bytes."""
+    for _ in range(how_many):
+        version, tasks, rows = drawn_table(generator)
+        lines = loose_lines(generator, tasks, rows, version)
+        yield loose_text(generator, lines), Draft(tasks, rows, version).data()
+
+
+OTHER_WORDS = [b"task", b"section", b"version", b"jitter", b"delays", b"0", b"1", b"2", b"255",
+               b"256", b"1000000", b"4294967295", b"4294967296", b"x", b"-1", b"\xff", b"\r", b"#"]
+
+
+def spoil_words(generator, lines):
+    """One word more, one less or another one; a line twice, or one less, or two that change
+    places."""
+    way = generator.below(6)
+    at, other = generator.below(len(lines)), generator.below(len(lines))
+    if way == 0:
+        lines.insert(other, lines[at])
+    elif way == 1:
+        lines[at], lines[other] = lines[other], lines[at]
+    elif way == 2:
+        del lines[at]
+    else:
+        words = list(lines[at])
+        place = generator.below(len(words))
+        words[place:place + (way > 3)] = [] if way == 5 else [generator.pick(OTHER_WORDS)]
+        lines[at] = words
+
+
+def spoiled_texts(generator, how_many):
+    for _ in range(how_many):
+        version, tasks, rows = drawn_table(generator)
+        lines = loose_lines(generator, tasks, rows, version)
+        for _ in range(generator.pick([1, 1, 2])):
+            if lines:
+                spoil_words(generator, lines)
+        yield loose_text(generator, lines)
+
+
+def spoiled_by_bytes(generator, how_many):
+    """A written text with a byte changed, put in or taken out."""
+    for _ in range(how_many):
+        version, tasks, rows = drawn_table(generator)
+        text = write_text(Draft(tasks, rows, version).data())
+        at = generator.below(len(text))
+        put = generator.pick([b"", b"\r", b"\n", b" ", b"#", b"0", b"9", generator.bytes(1)])
+        yield text[:at] + put + text[at + generator.below(2):]
+
+
+def pieced_texts(generator, how_many):
+    pieces = OTHER_WORDS + [b" ", b"\t", b"\n", b"\r\n", b"task 1 9 5 9", b"section 0 1 1",
+                            b"version 2\n", b"\n", b"\n", b" ", b" ", b" "]
+    for _ in range(how_many):
+        yield b"".join(generator.pick(pieces) for _ in range(generator.between(1, 24)))
+
+
+def all_texts():
+    """The same at every run."""
+    generator = Generator(SEED + 17)
+    for text, *_ in itertools.chain(faulty_texts(), readable_texts(), drawn_texts(generator, 40)):
+        yield text
+    yield from spoiled_texts(generator, 30)
+    yield from spoiled_by_bytes(generator, 20)
+    yield from pieced_texts(generator, 20)
+
+
+# ---------------------------------------------------------------------------
 # Made lists of claims
 # ---------------------------------------------------------------------------
 
@@ -4646,6 +5185,121 @@ def check_claims(checks, claimed):
     return len(passing)
 
 
+def fault_of(text):
+    try:
+        read_text(text)
+    except Unreadable as fault:
+        return fault.line, fault.kind
+    return None
+
+
+def check_faulty_texts(checks):
+    told = set()
+    for text, line, kind in faulty_texts():
+        checks.same(fault_of(text), (line, kind), "fault of the text %r" % text[:60])
+        told.add(kind)
+    checks.same(told, set(Kind), "the kinds of faults")
+
+
+def bytes_or_fault(text):
+    try:
+        return bytes_of_text(text)
+    except Unreadable as fault:
+        return str(fault)
+
+
+def check_readable_texts(checks):
+    for text, data in readable_texts():
+        checks.same(bytes_or_fault(text), data, "bytes of the text %r" % text[:60])
+
+
+def example_tables():
+    """The name, the text and the bytes of each of examples/."""
+    folder = os.path.join(os.path.dirname(os.path.abspath(__file__)), os.pardir, "examples")
+    for name in sorted(os.listdir(folder)):
+        if name.endswith(".table"):
+            path = os.path.join(folder, name[:-len(".table")])
+            with open(path + ".txt", "rb") as text, open(path + ".table", "rb") as table:
+                yield name, text.read(), table.read()
+
+
+def check_examples(checks):
+    for name, text, data in example_tables():
+        checks.same(bytes_or_fault(text), data, "the text of examples/%s" % name)
+
+
+def check_written_texts(checks):
+    """What is written is read back, and no two tables are written alike."""
+    generator = Generator(SEED + 16)
+    written = {}
+    for text, data in drawn_texts(generator, 400):
+        checks.same(bytes_or_fault(text), data, "bytes of a drawn text")
+        again = write_text(data)
+        checks.same(bytes_or_fault(again), data, "a written table, read back")
+        checks.same(written.setdefault(again, data), data, "two tables with one text")
+    greatest = GREATEST_TICKS
+    tasks = [Task(255, greatest, greatest, greatest, greatest, greatest)] * MOST_TASKS
+    rows = [Row(place, semaphore, greatest) for place in (198, 199) for semaphore in range(1, 17)]
+    data = Draft(tasks, rows, 3).data()
+    checks.same(bytes_or_fault(write_text(data)), data, "the longest numbers, read back")
+
+
+WRITTEN_TEXT = b"""# task PRIORITY PERIOD COST DEADLINE; section PLACE SEMAPHORE LENGTH
+version 2
+task 9 10 2 40
+task 9 20 3 12 jitter 5
+task 1 30 4 30 delays 6 7
+section 0 1 2
+section 2 16 4
+"""
+# The byte of each field of that table, and one inside a field.
+WRITTEN_LINES = {
+    0: "line 2: version", 1: "no line: length", 2: "no line: length", 3: "no line: number of tasks",
+    4: "no line: number of sections", 5: "line 3: priority", 6: "line 3: period",
+    10: "line 3: cost", 14: "line 3: deadline", 18: "line 3: earliest delay",
+    22: "line 3: latest delay",
+    26: "line 4: priority", 43: "line 4: latest delay", 60: "line 5: earliest delay",
+    67: "line 5: latest delay", 68: "line 6: place", 69: "line 6: semaphore", 70: "line 6: length",
+    74: "line 7: place", 79: "line 7: length",
+}
+# The second task of the fifth table, each field with a fault: the line and the field are told.
+REFUSED_LINES = [
+    (b"task 3 6 2 6", "line 4: priority"), (b"task 2 0 2 6", "line 4: period"),
+    (b"task 2 6 0 6", "line 4: cost"), (b"task 2 6 2 7", "line 4: deadline"),
+    (b"task 2 6 2 6 jitter 1000001", "line 4: jitter"),
+    (b"task 2 6 2 6 delays 1000001 1000001", "line 4: earliest delay"),
+    (b"task 2 6 2 6 delays 2 1", "line 4: latest delay"),
+    (b"task 2 6 2 6\nsection 2 1 1", "line 5: place"),
+    (b"task 2 6 2 6\nsection 1 17 1", "line 5: semaphore"),
+    (b"task 2 6 2 6\nsection 1 1 3", "line 5: length"),
+    (b"task 2 6 2 6\nsection 1 1 1\n\nsection 0 1 1", "line 7: place"),
+]
+
+
+def check_text_lines(checks):
+    data = bytes_of_text(WRITTEN_TEXT)
+    checks.same(write_text(data), WRITTEN_TEXT, "the written text")
+    for place, line in WRITTEN_LINES.items():
+        checks.same(text_line(WRITTEN_TEXT, place), line, "the line of byte %d" % place)
+    for lines, wanted in REFUSED_LINES:
+        text = b"# two tasks\n\ntask 2 4 1 4\n" + lines
+        refusal = refusal_of([bytes_of_text(text)], read_bytes)
+        checks.same(text_line(text, refusal[1]), wanted, "the line of a refusal")
+    for text, wanted in ((b"", (3, "no line: number of tasks")),
+                         (b"version 1\n" + TASK_LINE * 33, (3, "no line: number of tasks")),
+                         (b"\nversion 9\n", (2, "line 2: version"))):
+        number, place = refusal_of([bytes_of_text(text)], read_bytes)
+        checks.same((number, text_line(text, place)), wanted, "the line of a refusal of the head")
+
+
+def check_texts(checks):
+    check_faulty_texts(checks)
+    check_readable_texts(checks)
+    check_examples(checks)
+    check_written_texts(checks)
+    check_text_lines(checks)
+
+
 LONGEST_PLAIN_DEADLINE = 3000
 LONGEST_PLAYED_DEADLINE = 400
 
@@ -5222,6 +5876,30 @@ def command_answer(arguments):
     sys.stdout.write(past_text_of(data) if arguments.past_period else text_of(data))
 
 
+def command_to_bytes(_arguments):
+    try:
+        sys.stdout.buffer.write(bytes_of_text(sys.stdin.buffer.read()))
+    except Unreadable as fault:
+        sys.exit(str(fault))
+
+
+def command_to_text(_arguments):
+    """Its text form, or its refusal."""
+    try:
+        sys.stdout.buffer.write(write_text(sys.stdin.buffer.read(MOST_BYTES_TAKEN)))
+    except Refused as refusal:
+        print(refusal)
+
+
+def command_text_line(arguments):
+    try:
+        print(text_line(sys.stdin.buffer.read(), arguments.place))
+    except Unreadable as fault:
+        sys.exit(str(fault))
+    except IndexError:
+        sys.exit("reference: the table has no byte %d" % arguments.place)
+
+
 def write_file(folder, name, data):
     with open(os.path.join(folder, name), "wb") as target:
         target.write(data)
@@ -5262,6 +5940,7 @@ def command_check(_arguments):
     played = check_past(checks, entries)
     claimed = list(all_claims())
     passing = check_claims(checks, claimed)
+    check_texts(checks)
     if checks.failed:
         sys.exit("reference: %d of %d checks failed" % (checks.failed, checks.done))
     print("reference: %d checks; the engine takes %d of %d tables; the busy times of %d tasks are "
@@ -5315,6 +5994,17 @@ def command_stacks(arguments):
         write_file(arguments.folder, name + ".table", data)
 
 
+def command_texts(arguments):
+    os.makedirs(arguments.folder, exist_ok=True)
+    for number, text in enumerate(all_texts()):
+        name = "%03d" % number
+        write_file(arguments.folder, name + ".txt", text)
+        try:
+            write_file(arguments.folder, name + ".bytes", bytes_of_text(text))
+        except Unreadable as fault:
+            write_file(arguments.folder, name + ".fault", b"%s\n" % str(fault).encode("ascii"))
+
+
 MAKE_HELP = """writes FOLDER/tables and FOLDER/expected, and FOLDER/claims and FOLDER/expected-claims,
 the same bytes at every run
 
@@ -5356,6 +6046,12 @@ and prints for each a line with its name, the number of ticks that are played, a
 """
 
 
+TEXTS_HELP = """writes some 400 texts of tables, right ones and faulty ones, FOLDER/000.txt and so
+on, the same bytes at every run; and beside each FOLDER/000.bytes with its table's bytes, or, where
+it cannot be read, FOLDER/000.fault with the line that tells why.
+"""
+
+
 def parse_arguments():
     parser = argparse.ArgumentParser(
         description="A second opinion on task tables, written from the documents alone.")
@@ -5365,6 +6061,19 @@ def parse_arguments():
     answer.add_argument("--past-period", action="store_true", help="that of the second analysis")
     answer.add_argument("file", nargs="?", metavar="FILE", help="else standard input")
     answer.set_defaults(run=command_answer)
+
+    to_bytes = commands.add_parser("to-bytes", help="turn a table's text form, on standard input, "
+                                   "into its bytes")
+    to_bytes.set_defaults(run=command_to_bytes)
+
+    to_text = commands.add_parser("to-text", help="turn a table's bytes, on standard input, into "
+                                  "its text form")
+    to_text.set_defaults(run=command_to_text)
+
+    line = commands.add_parser("text-line", help="print the line of a text, on standard input, "
+                               "from which a byte of its table comes")
+    line.add_argument("place", type=int, metavar="PLACE", help="the byte, counted from 0")
+    line.set_defaults(run=command_text_line)
 
     raw = argparse.RawDescriptionHelpFormatter
     make = commands.add_parser("make", help="write tables and their expected answers",
@@ -5384,6 +6093,11 @@ def parse_arguments():
                                "measured", description=PAST_HELP, formatter_class=raw)
     past.add_argument("folder", metavar="FOLDER")
     past.set_defaults(run=command_past)
+
+    texts = commands.add_parser("texts", help="write texts of tables and their bytes",
+                                description=TEXTS_HELP, formatter_class=raw)
+    texts.add_argument("folder", metavar="FOLDER")
+    texts.set_defaults(run=command_texts)
 
     runs = commands.add_parser("runs", help="play every run of small tables with ties")
     runs.set_defaults(run=command_runs)
