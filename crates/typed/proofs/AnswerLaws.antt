@@ -84,7 +84,7 @@ module _ (typed : Typed) (counts : Counts) (numbers places : List ℕ) (h : Hold
         rows = (tabulate-same (lowRow numbers) (rowKept numbers) (counts .sections) low-row ∙ h .rows) j;
       }
 
-  version-is : versionKept counts (numberAt numbers 0) ≡ versionFor counts (typed .version)
+  pub version-is : versionKept counts (numberAt numbers 0) ≡ versionFor counts (typed .version)
   unfolding versionKept versionFor
   version-is =
       elim (bool? (counts .stated)) [

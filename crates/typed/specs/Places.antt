@@ -77,3 +77,44 @@ placeTyped version typed place =
 abbrev pub placeFor : Reading → ℕ → List ℕ
 placeFor (given version typed) place = placeTyped version typed place
 placeFor (faulty line fault) place = faultLine line fault
+
+-- the names of the fields that a refusal can point at (crates/tables/specs/Fields.antt)
+abbrev pub recordFieldName : DelayFields → RecordField → List ℕ
+recordFieldName delays priorityField = bytesOf "priority"
+recordFieldName delays periodField = bytesOf "period"
+recordFieldName delays costField = bytesOf "cost"
+recordFieldName delays deadlineField = bytesOf "deadline"
+recordFieldName Jitter earliestField = bytesOf "jitter"
+recordFieldName Pair earliestField = bytesOf "earliest delay"
+recordFieldName Jitter latestField = bytesOf "jitter"
+recordFieldName Pair latestField = bytesOf "latest delay"
+
+abbrev pub rowFieldName : RowField → List ℕ
+rowFieldName placeField = bytesOf "place"
+rowFieldName semaphoreField = bytesOf "semaphore"
+rowFieldName longestField = bytesOf "length"
+rowFieldName orderField = bytesOf "place"
+
+abbrev pub countFieldName : CountField → List ℕ
+countFieldName taskCountField = bytesOf "number of tasks"
+countFieldName rowCountField = bytesOf "number of sections"
+
+-- "The place-to-line answer: the field that stands there."
+pub record PlaceSaid : Type 0 where
+  -- what the code says of a text that can be read is said of what is typed
+  pub kept : (numbers places text : List ℕ) (place version : ℕ) (typed : Typed) → Ready numbers places → readingOf text ≡ given version typed →
+      placeKept (keptBehind numbers places (eventsOf text) .state .counts)
+      (versionKept (keptBehind numbers places (eventsOf text) .state .counts) (numberAt (keptBehind numbers places (eventsOf text) .numbers) 0))
+      (keptBehind numbers places (eventsOf text) .places) place
+      ≡ placeTyped version typed place
+  -- where a refusal points at a field of task i, that field is named, with the line of that task
+  pub inRecord : (version : ℕ) (typed : Typed) (i : ℕ) (field : RecordField) → Known version → i < length (typed .tasks) →
+      placeTyped version typed (placeOf (refusalInRecord (layoutFor version) i field))
+      ≡ said (lineIn (typed .taskLines) i) (recordFieldName (layoutFor version .delays) field)
+  -- and so for section k
+  pub inRow : (version : ℕ) (typed : Typed) (k : ℕ) (field : RowField) → k < length (typed .rows) →
+      placeTyped version typed (placeOf (refusalInRow (layoutFor version) (length (typed .tasks)) k field))
+      ≡ said (lineIn (typed .rowLines) k) (rowFieldName field)
+  -- the counts stand in no line, and byte 0 is the version
+  pub inHead : (version : ℕ) (typed : Typed) (field : CountField) → placeTyped version typed (placeOf (countRefusal field)) ≡ said 0 (countFieldName field)
+  pub ofVersion : (version : ℕ) (typed : Typed) → placeTyped version typed 0 ≡ said (typed .versionLine) (bytesOf "version")
