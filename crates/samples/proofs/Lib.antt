@@ -3,3 +3,4 @@ pub mod SampleTexts
 pub mod PastSampleTexts
 pub mod PastExampleLaws
 pub mod SampleForms
+pub mod TextExampleLaws

@@ -3,3 +3,4 @@ pub mod Samples
 pub mod PastSamples
 pub mod PastExamples
 pub mod FormSamples
+pub mod TextExamples
