@@ -31,7 +31,7 @@ use Rattle.typing.specs.Reading.{Typed, Draft, versionFor, outcomeAt, readingOf
 use Rattle.typing.specs.Kept.{numberAt, taskKept, rowKept, Holds, TypedFits, keptBehind, draftBehind, Ready, TypedKept}
 use Rattle.typing.proofs.KeptLaws.{typedKept}
 use Rattle.typing.proofs.MemoryLaws.{sized-after}
-use Rattle.typed.specs.Bytes.{taskFrom, rowFrom, lowTask, lowRow, versionKept, Roomy, tableKept, bytesKept}
+use Rattle.typed.specs.Bytes.{lowTaskAt, lowRowAt, lowTask, lowRow, versionKept, Roomy, tableKept, bytesKept}
 use Rattle.typed.specs.Messages.{messageOf, faultLine}
 use Rattle.typed.specs.Answered.{textFor, isFaulty, keptText, isWrong, TextAnswered, AnswerFits}
 
@@ -49,7 +49,7 @@ module _ (typed : Typed) (counts : Counts) (numbers places : List ℕ) (h : Hold
       sym (getD-tabulate (rowKept numbers) (counts .sections) k noRow l) ∙ ap (λ (rows : List Row). rowOf rows k) (h .rows)
 
   low-task : (i : ℕ) → i < counts .tasks → lowTask numbers i ≡ taskKept numbers i
-  unfolding taskKept taskFrom
+  unfolding taskKept lowTaskAt
   low-task i l =
       let small : taskKept numbers i .priority ≤ 255 =
       rw (ap (λ (task : Task). task .priority) (kept-task i l)) (f .eachTask i (omega (arith, f .taskCount)) .priority) in
@@ -64,7 +64,7 @@ module _ (typed : Typed) (counts : Counts) (numbers places : List ℕ) (h : Hold
       }
 
   low-row : (k : ℕ) → k < counts .sections → lowRow numbers k ≡ rowKept numbers k
-  unfolding rowKept rowFrom
+  unfolding rowKept lowRowAt
   low-row k l =
       let place : rowKept numbers k .place ≤ 255 =
       rw (ap (λ (row : Row). row .place) (kept-row k l)) (f .eachRow k (omega (arith, f .rowCount)) .place) in

@@ -17,7 +17,7 @@ use Rattle.tables.specs.declared.layout.DelayFields.the-variants.{Jitter, Pair}
 use Rattle.encoding.specs.Bytes.{fourBytes, recordBytes, rowBytes, joined}
 use Rattle.typing.specs.declared.lines.Counts.{Counts}
 use Rattle.typing.specs.Kept.{numberAt}
-use Rattle.typed.specs.Bytes.{taskFrom, rowFrom, lowTask, lowRow, delaysOf, headKept, versionKept, bytesKept}
+use Rattle.typed.specs.Bytes.{lowTaskAt, lowRowAt, lowTask, lowRow, delaysOf, headKept, versionKept, bytesKept}
 
 -- a record's numbers, as the code puts them one behind another
 abbrev pub recordIn : DelayFields → (priority period cost deadline earliest latest : ℕ) → List ℕ
@@ -26,14 +26,14 @@ recordIn delays priority period cost deadline earliest latest =
 
 pub record-is : (delays : DelayFields) (numbers : List ℕ) (from : ℕ) →
     recordIn delays (numberAt numbers from) (numberAt numbers (from + 1)) (numberAt numbers (from + 2)) (numberAt numbers (from + 3)) (numberAt numbers (from + 4)) (numberAt numbers (from + 5))
-    ≡ recordBytes delays (taskFrom numbers from)
-unfolding taskFrom
+    ≡ recordBytes delays (lowTaskAt numbers from)
+unfolding lowTaskAt
 record-is Jitter numbers from = refl
 record-is Pair numbers from = refl
 
 pub row-is : (numbers : List ℕ) (from : ℕ) →
-    ((numberAt numbers from % 256 ∷ []) ++ (numberAt numbers (from + 1) % 256 ∷ [])) ++ fourBytes (numberAt numbers (from + 2)) ≡ rowBytes (rowFrom numbers from)
-unfolding rowFrom
+    ((numberAt numbers from % 256 ∷ []) ++ (numberAt numbers (from + 1) % 256 ∷ [])) ++ fourBytes (numberAt numbers (from + 2)) ≡ rowBytes (lowRowAt numbers from)
+unfolding lowRowAt
 row-is numbers from = refl
 
 -- no table that can be typed has more bytes

@@ -13,8 +13,8 @@ use Rattle.typing.specs.declared.lines.Counts.{Counts}
 use Rattle.typing.specs.Kept.{numberAt}
 
 -- a task and a section whose numbers stand from a place on, with the lowest byte of what has one byte
-unfoldable pub taskFrom : List ℕ → ℕ → Task
-taskFrom numbers from =
+unfoldable pub lowTaskAt : List ℕ → ℕ → Task
+lowTaskAt numbers from =
     record {
       priority = numberAt numbers from % 256;
       period = numberAt numbers (from + 1);
@@ -24,8 +24,8 @@ taskFrom numbers from =
       latest = numberAt numbers (from + 5);
     }
 
-unfoldable pub rowFrom : List ℕ → ℕ → Row
-rowFrom numbers from =
+unfoldable pub lowRowAt : List ℕ → ℕ → Row
+lowRowAt numbers from =
     record {
       place = numberAt numbers from % 256;
       semaphore = numberAt numbers (from + 1) % 256;
@@ -33,10 +33,10 @@ rowFrom numbers from =
     }
 
 abbrev pub lowTask : List ℕ → ℕ → Task
-lowTask numbers i = taskFrom numbers (193 + 6 * i)
+lowTask numbers i = lowTaskAt numbers (193 + 6 * i)
 
 abbrev pub lowRow : List ℕ → ℕ → Row
-lowRow numbers k = rowFrom numbers (1 + 3 * k)
+lowRow numbers k = lowRowAt numbers (1 + 3 * k)
 
 -- the delays of a record
 abbrev pub delaysOf : DelayFields → ℕ → ℕ → List ℕ

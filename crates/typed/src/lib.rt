@@ -7,7 +7,7 @@ ghost use Rattle.model.specs.Lists.{tabulate};
 ghost use Rattle.tables.specs.Layout.{layoutFor};
 ghost use Rattle.encoding.specs.Bytes.{fourBytes, delayBytes, recordBytes, rowBytes, joined, headBytes};
 ghost use Rattle.printing.specs.Appended.{Appended};
-ghost use Rattle.typed.specs.Bytes.{taskFrom, rowFrom, lowTask, lowRow, delaysOf, headKept, versionKept, Roomy, bytesKept};
+ghost use Rattle.typed.specs.Bytes.{lowTaskAt, lowRowAt, lowTask, lowRow, delaysOf, headKept, versionKept, Roomy, bytesKept};
 ghost use Rattle.typed.specs.Answered.{Answered};
 ghost use Rattle.typed.specs.Messages.{messageOf, faultLine};
 use printing::append;
@@ -135,7 +135,7 @@ fn tasks(out: &mut [u8], at: usize, delays: DelayFields, numbers: &[u32], count:
 fn task(out: &mut [u8], at: usize, delays: DelayFields, numbers: &[u32], from: usize) -> usize
     requires { ⌜ from + 6 ≤ length (now numbers) ⌝ }
     requires { ⌜ length (now numbers) ≡ 1393 ⌝ }
-    ensures { λ r. ⌜ Appended (now (out .entry)) at (recordBytes delays (taskFrom (now (numbers .entry)) from)) r (now (out .exit)) ⌝ }
+    ensures { λ r. ⌜ Appended (now (out .entry)) at (recordBytes delays (lowTaskAt (now (numbers .entry)) from)) r (now (out .exit)) ⌝ }
 {
     let placed = byte(out, at, numbers[from]);
     let timed = word(out, placed, numbers[from + 1]);
@@ -177,7 +177,7 @@ fn sections(out: &mut [u8], at: usize, numbers: &[u32], count: usize) -> usize
 fn section(out: &mut [u8], at: usize, numbers: &[u32], from: usize) -> usize
     requires { ⌜ from + 3 ≤ length (now numbers) ⌝ }
     requires { ⌜ length (now numbers) ≡ 1393 ⌝ }
-    ensures { λ r. ⌜ Appended (now (out .entry)) at (rowBytes (rowFrom (now (numbers .entry)) from)) r (now (out .exit)) ⌝ }
+    ensures { λ r. ⌜ Appended (now (out .entry)) at (rowBytes (lowRowAt (now (numbers .entry)) from)) r (now (out .exit)) ⌝ }
 {
     let placed = byte(out, at, numbers[from]);
     let held = byte(out, placed, numbers[from + 1]);

@@ -24,7 +24,7 @@ use Rattle.typing.specs.declared.lines.Line.the-variants.{Blank, Filling
 use Rattle.typing.specs.declared.lines.Counts.{Counts}
 use Rattle.typing.specs.declared.State.{State}
 use Rattle.typing.specs.Lines.{noFields, fieldsAfter, isWhole, wholeLine, endedLine}
-use Rattle.typing.specs.Reading.{stateBegun, stateHeard, countsWith, countsAtEnd, stateEnded, Typed, nothingTyped, field, typedTask, typedRow, typedWith, typedAtEnd, Draft, draftBegun, draftBy, draftAfter}
+use Rattle.typing.specs.Reading.{stateBegun, stateHeard, taskAdded, countsWith, countsAtEnd, stateEnded, Typed, nothingTyped, field, typedTask, typedRow, withTask, typedWith, typedAtEnd, Draft, draftBegun, draftBy, draftAfter}
 use Rattle.typing.specs.Steps.{slotFor, sizeFor, placeSlot, numbersWith, placesWith, numbersAtEnd, placesAtEnd, Memory, memory, memoryBy, memoryAfter}
 use Rattle.typing.specs.Kept.{numberAt, taskKept, rowKept, taskLineKept, rowLineKept, Holds, TaskFits, RowFits, TypedFits, keptBehind, draftBehind, Ready, TypedKept}
 use Rattle.typing.proofs.LineLaws.{fields-long}
@@ -111,6 +111,20 @@ task-fits line fields f =
       latest = f .each 5;
     }
 
+-- a task more, however its delays are typed
+fits-task : (delayed : Bool) (line : Line) (number : ℕ) (counts : Counts) (fields : List ℕ) (typed : Typed) → counts .tasks ≤ 199 →
+    FieldsFit line fields → TypedFits counts typed → TypedFits (taskAdded delayed counts) (withTask fields number typed)
+fits-task delayed line number counts fields typed room f t =
+    record {
+      version = t .version;
+      tasks = omega (arith, room);
+      rows = t .rows;
+      taskCount = long-more (typed .tasks) (typedTask fields) (counts .tasks) (t .taskCount);
+      rowCount = t .rowCount;
+      eachTask = each-more TaskFits noTask (typedTask fields) (typed .tasks) (t .eachTask) (task-fits line fields f);
+      eachRow = t .eachRow;
+    }
+
 -- a whole line more
 fits-with : (kind : Kind) (count number : ℕ) (counts : Counts) (fields : List ℕ) (typed : Typed) → Room (Filling kind count) counts →
     FieldsFit (Filling kind count) fields → TypedFits counts typed →
@@ -126,35 +140,11 @@ fits-with VersionLine count number counts fields typed r f t =
       eachRow = t .eachRow;
     }
 fits-with TaskLine count number counts fields typed r f t =
-    record {
-      version = t .version;
-      tasks = omega (arith, r .tasks);
-      rows = t .rows;
-      taskCount = long-more (typed .tasks) (typedTask fields) (counts .tasks) (t .taskCount);
-      rowCount = t .rowCount;
-      eachTask = each-more TaskFits noTask (typedTask fields) (typed .tasks) (t .eachTask) (task-fits (Filling TaskLine count) fields f);
-      eachRow = t .eachRow;
-    }
+    fits-task (counts .delayed) (Filling TaskLine count) number counts fields typed (r .tasks) f t
 fits-with JitterLine count number counts fields typed r f t =
-    record {
-      version = t .version;
-      tasks = omega (arith, r .tasks);
-      rows = t .rows;
-      taskCount = long-more (typed .tasks) (typedTask fields) (counts .tasks) (t .taskCount);
-      rowCount = t .rowCount;
-      eachTask = each-more TaskFits noTask (typedTask fields) (typed .tasks) (t .eachTask) (task-fits (Filling JitterLine count) fields f);
-      eachRow = t .eachRow;
-    }
+    fits-task (counts .delayed) (Filling JitterLine count) number counts fields typed (r .tasks) f t
 fits-with DelaysLine count number counts fields typed r f t =
-    record {
-      version = t .version;
-      tasks = omega (arith, r .tasks);
-      rows = t .rows;
-      taskCount = long-more (typed .tasks) (typedTask fields) (counts .tasks) (t .taskCount);
-      rowCount = t .rowCount;
-      eachTask = each-more TaskFits noTask (typedTask fields) (typed .tasks) (t .eachTask) (task-fits (Filling DelaysLine count) fields f);
-      eachRow = t .eachRow;
-    }
+    fits-task true (Filling DelaysLine count) number counts fields typed (r .tasks) f t
 fits-with SectionLine count number counts fields typed r f t =
     record {
       version = t .version;
