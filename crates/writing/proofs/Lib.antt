@@ -1,4 +1,4 @@
-pub mod LineLaws
+pub mod DelayLaws
 pub mod HeadLaws
 pub mod Forms
 pub mod LongestLaws

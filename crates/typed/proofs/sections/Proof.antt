@@ -5,7 +5,7 @@ use mathlib.Core.Path.{refl}
 use native.Mathlib.Omega.{arith}
 use Rattle.encoding.specs.Bytes.{rowBytes}
 use Rattle.printing.proofs.AppendLaws.{long}
-use Rattle.writing.proofs.LineLaws.{Lines, lines-none, lines-more, lines-all}
+use Rattle.printing.proofs.JoinedLaws.{Lines, lines-none, lines-more, lines-all}
 use Rattle.typed.specs.Bytes.{lowRow}
 use Rattle.typed.proofs.sections.Statement.{statement}
 use Rattle.typed.proofs.sections.Tie as tie

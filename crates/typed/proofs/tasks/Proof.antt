@@ -5,7 +5,7 @@ use mathlib.Core.Path.{refl}
 use native.Mathlib.Omega.{arith}
 use Rattle.encoding.specs.Bytes.{recordBytes}
 use Rattle.printing.proofs.AppendLaws.{long}
-use Rattle.writing.proofs.LineLaws.{Lines, lines-none, lines-more, lines-all}
+use Rattle.printing.proofs.JoinedLaws.{Lines, lines-none, lines-more, lines-all}
 use Rattle.typed.specs.Bytes.{lowTask}
 use Rattle.typed.proofs.tasks.Statement.{statement}
 use Rattle.typed.proofs.tasks.Tie as tie

@@ -1,7 +1,7 @@
 -- `writing::delays` meets its contract: by the tests of the two numbers.
 -- Assumes nothing.
 use Rattle.printing.proofs.AppendLaws.{then, nothing, as-text}
-use Rattle.writing.proofs.LineLaws.{delays-both, delays-latest, delays-none}
+use Rattle.writing.proofs.DelayLaws.{delays-both, delays-latest, delays-none}
 use borrow.Author.Needs.{needs}
 use Rattle.writing.proofs.delays.Statement.{statement}
 use Rattle.writing.proofs.delays.Tie as tie

@@ -6,7 +6,7 @@ use Rattle.tables.specs.Layout.{rowAt}
 use Rattle.tables.proofs.CheckLaws.{head-right}
 use Rattle.printing.proofs.AppendLaws.{long}
 use Rattle.writing.specs.Text.{sectionLine}
-use Rattle.writing.proofs.LineLaws.{Lines, lines-none, lines-more, lines-all}
+use Rattle.printing.proofs.JoinedLaws.{Lines, lines-none, lines-more, lines-all}
 use Rattle.writing.proofs.HeadLaws.{head-read, records-near, row-fits, row-near, row-is}
 use borrow.Author.Needs.{needs}
 use Rattle.writing.proofs.sections.Statement.{statement}

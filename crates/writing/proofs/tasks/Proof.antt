@@ -7,7 +7,7 @@ use Rattle.tables.proofs.CheckLaws.{head-right}
 use Rattle.records.proofs.ColumnLaws.{sound}
 use Rattle.printing.proofs.AppendLaws.{long}
 use Rattle.writing.specs.Text.{taskLine}
-use Rattle.writing.proofs.LineLaws.{Lines, lines-none, lines-more, lines-all}
+use Rattle.printing.proofs.JoinedLaws.{Lines, lines-none, lines-more, lines-all}
 use Rattle.writing.proofs.HeadLaws.{head-read, record-near, record-fits, record-is}
 use borrow.Author.Needs.{needs}
 use Rattle.writing.proofs.tasks.Statement.{statement}

@@ -1,18 +1,14 @@
--- Lines one behind another, of whatever they are: none, one more, and all; and the delays of a task by what their two numbers are.
+-- Texts of things one behind another, whatever they are: none, one more, and all.
 -- Assumes nothing.
 use Prim.Native.Nat.{ℕ, _+_, _≤_, _<_}
 use native.Mathlib.Omega.{arith}
 use mathlib.Core.Path.{_≡_, refl, sym, _∙_, ap}
-use mathlib.Core.Logic.{inl, inr}
 use mathlib.Core.List.{List, [], _∷_, _++_, append-assoc, append-nil}
 use Rattle.model.specs.Lists.{tabulate}
 use Rattle.model.proofs.Lists.{tabulate-more}
-use Rattle.model.proofs.Tests.{eqb?}
 use Rattle.encoding.specs.Bytes.{joined}
 use Rattle.printing.specs.Appended.{Appended}
-use Rattle.printing.specs.Text.{bytesOf, withNumber}
 use Rattle.printing.proofs.AppendLaws.{then, nothing, as-text}
-use Rattle.writing.specs.Text.{nextNumber, delaysText}
 
 module _ {A : Type 0} (line : A → List ℕ) where
   joined-both : (xs ys : List A) → joined line (xs ++ ys) ≡ joined line xs ++ joined line ys
@@ -53,25 +49,3 @@ pub lines-all : {A : Type 0} {line : A → List ℕ} {thing : ℕ → A} {old ne
 lines-all {line = line} {thing = thing} {i = i} {count = count} l h counted =
     let e : i ≡ count = omega (arith, l .most) in
     as-text (l .lines) (ap (λ (k : ℕ). joined line (tabulate thing k)) e)
-
--- what stands behind a deadline
-module _ (earliest latest : ℕ) where
-  pub delays-both : (earliest ≡ 0 → ⊥) → withNumber (bytesOf " delays ") earliest ++ nextNumber latest ≡ delaysText earliest latest
-  unfolding delaysText
-  delays-both some =
-      elim (eqb? earliest 0) [
-        | inl p ↦ absurd (some (p .1))
-        | inr p ↦ rw (p .0)
-      ]
-
-  pub delays-latest : earliest ≡ 0 → (latest ≡ 0 → ⊥) → withNumber (bytesOf " jitter ") latest ≡ delaysText earliest latest
-  unfolding delaysText
-  delays-latest none some =
-      elim (eqb? latest 0) [
-        | inl p ↦ absurd (some (p .1))
-        | inr p ↦ rw (none, p .0)
-      ]
-
-  pub delays-none : earliest ≡ 0 → latest ≡ 0 → [] ≡ delaysText earliest latest
-  unfolding delaysText
-  delays-none none neither = rw (none, neither)
