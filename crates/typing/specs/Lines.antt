@@ -69,7 +69,8 @@ unfoldable pub numberLine : Kind → ℕ → ℕ → Line
 numberLine kind count amount =
     pick (eqb amount notWhole) (Wrong NotWhole) (pick (ltb (limitFor kind count) amount) (Wrong TooLarge) (Filling kind (count + 1)))
 
--- a word that is no number, behind the last one: a task may have jitter or delays, but "in version 1 jitter alone" (SPECIFICATION 2.2)
+-- a word that is no number, behind the last one: a task may have jitter or delays, but in version 1, which has no
+-- place for an earliest delay (SPECIFICATION 2.2), jitter alone
 unfoldable pub delaysBehind : Bool → ℕ → Line
 delaysBehind old spelling =
     pick (eqb spelling (spellingOf (bytesOf "jitter"))) (Filling JitterLine 4)
