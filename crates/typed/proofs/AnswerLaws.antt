@@ -12,13 +12,14 @@ use Rattle.model.specs.Choice.{pick}
 use Rattle.model.specs.Lists.{tabulate}
 use Rattle.model.specs.Tables.{Task, Row, Table, noTask, taskOf}
 use Rattle.model.proofs.Lists.{tabulate-same, getD-tabulate, length-tabulate}
-use Rattle.model.proofs.Tests.{bool?}
+use Rattle.model.proofs.Tests.{bool?, clash}
 use Rattle.tables.specs.declared.layout.DelayFields.{DelayFields}
 use Rattle.tables.specs.declared.layout.DelayFields.the-variants.{Jitter, Pair}
 use Rattle.tables.specs.Layout.{layoutFor}
 use Rattle.encoding.specs.Bytes.{headBytes, recordBytes, rowBytes, joined, encode}
 use Rattle.encoding.specs.Statements.{noRow, rowOf}
 use Rattle.printing.specs.Text.{bytesOf, withNumber}
+use Rattle.printing.proofs.AppendLaws.{noSecondText}
 use Rattle.printing.proofs.LengthLaws.{few-digits, number-long}
 use Rattle.words.specs.Words.{eventsOf}
 use Rattle.typing.specs.declared.lines.Counts.{Counts}
@@ -33,7 +34,9 @@ use Rattle.typing.proofs.KeptLaws.{typedKept}
 use Rattle.typing.proofs.MemoryLaws.{sized-after}
 use Rattle.typed.specs.Bytes.{lowTaskAt, lowRowAt, lowTask, lowRow, versionKept, Roomy, tableKept, bytesKept}
 use Rattle.typed.specs.Messages.{messageOf, faultLine}
-use Rattle.typed.specs.Answered.{textFor, isFaulty, keptText, isWrong, TextAnswered, AnswerFits}
+use Rattle.typed.specs.declared.Answer.{Answer}
+use Rattle.typed.specs.declared.Answer.the-variants.{Bytes, Faulty}
+use Rattle.typed.specs.Answered.{textFor, isFaulty, keptText, isWrong, endIn, saysFaulty, Answered, NoSecondAnswer, TextAnswered, AnswerFits}
 
 -- what fits into a byte is its own lowest byte
 low-is : {x y : ℕ} → x ≡ y → y ≤ 255 → x % 256 ≡ y
@@ -184,3 +187,15 @@ pub answerFits : AnswerFits
 answerFits Blank state numbers r small = bytes-long (state .counts) numbers r
 answerFits (Filling kind count) state numbers r small = bytes-long (state .counts) numbers r
 answerFits (Wrong fault) state numbers r small = fault-long (state .number) fault small
+
+-- an answer is told by which of both it is and where it ends
+told : (answer other : Answer) → saysFaulty answer ≡ saysFaulty other → endIn answer ≡ endIn other → answer ≡ other
+told (Bytes end) (Bytes last) p q = ap Bytes q
+told (Bytes end) (Faulty last) p q = absurd (clash true refl (sym p))
+told (Faulty end) (Bytes last) p q = absurd (clash true refl p)
+told (Faulty end) (Faulty last) p q = ap Faulty q
+
+pub noSecondAnswer : NoSecondAnswer
+noSecondAnswer state numbers old answer other new another a b =
+    let same = noSecondText old 0 (keptText (state .line) state numbers) (endIn answer) (endIn other) new another (a .textIs) (b .textIs) in
+    (told answer other (a .faultIs ∙ sym (b .faultIs)) (same .0), same .1)

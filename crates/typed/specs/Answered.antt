@@ -51,6 +51,12 @@ pub record Answered (state : State) (numbers old : List ℕ) (answer : Answer) (
   pub faultIs : saysFaulty answer ≡ isWrong (state .line)
   pub textIs : Appended old 0 (keptText (state .line) state numbers) (endIn answer) new
 
+-- No second answer satisfies it: which of both it is, where it ends, and each byte of the buffer are determined.
+abbrev pub NoSecondAnswer : Type 0
+NoSecondAnswer =
+    (state : State) (numbers old : List ℕ) (answer other : Answer) (new another : List ℕ) →
+    Answered state numbers old answer new → Answered state numbers old other another → (answer ≡ other) × (new ≡ another)
+
 -- For any text, whatever the slices held before.
 pub record TextAnswered : Type 0 where
   pub textIs : (numbers places text : List ℕ) → Ready numbers places →
