@@ -1,6 +1,7 @@
 # What ./answers and ./library share: messages, and proving and building with a line for each crate. They set "command", the name
 # that stands before each message, and "top", the project's folder, and then read this file.
-# shellcheck shell=sh disable=SC2154
+# "-nt" is in every sh that Debian has.
+# shellcheck shell=sh disable=SC2154,SC3013
 
 fail() { # STATUS MESSAGE
     printf '%s: %s\n' "$command" "$2" >&2
@@ -79,6 +80,8 @@ take_lock() {
     }
 }
 
+leave_lock() { exec 9>&-; }
+
 # The shell does not come to its EXIT trap by itself where a signal ends it.
 exit_on_signals() {
     trap 'exit 129' HUP
@@ -89,7 +92,8 @@ exit_on_signals() {
 
 # Ends the build with the command. What is proved stays proved, and the next run goes on from there.
 stop_building() { # STATUS
-    kill -TERM -- "-$building" 2>/dev/null || true
+    # (this form, without "--", is one that every sh takes)
+    kill -TERM "-$building" 2>/dev/null || true
     exit "$1"
 }
 
