@@ -1,1 +1,1 @@
-pub mod TextLaws
+pub mod ReadLaws

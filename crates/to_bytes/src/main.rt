@@ -1,24 +1,18 @@
 // Reads the text of a table from standard input and writes the table's bytes. With one argument, a byte of the table, it writes the line of
 // the text in which that field stands instead. A text that can't be read gets one line on standard error (SPECIFICATION 14).
-ghost use Prim.Native.Nat.{_≤_, _<_};
-ghost use mathlib.Core.Path.{_≡_};
+ghost use Prim.Native.Nat.{_≤_};
 ghost use lib.ListN.{length};
-ghost use Rattle.printing.specs.Longest.{Whole};
-ghost use Rattle.typed.specs.Bytes.{Roomy};
-ghost use Rattle.typed.specs.Answered.{keptText, isWrong, endIn, saysFaulty};
-ghost use Rattle.to_bytes.specs.Texts.{Empty, Behind, textRead};
+ghost use Rattle.typed.specs.Answered.{endIn};
+ghost use Rattle.texts.specs.Behind.{Empty};
+ghost use Rattle.to_bytes.specs.Texts.{Behind, After, Ended, textRead, AnswersText, AnswersPlace};
 use libc::STDERR_FILENO;
 use libc::STDIN_FILENO;
 use libc::STDOUT_FILENO;
 use scanning::Scanned;
+use texts::MOST_TEXT;
 use typed::Answer;
-use typing::Counts;
-use typing::Line;
 use typing::Reader;
 use typing::State;
-
-// 2^59: a proved loop has to end, and no text is that long.
-const MOST_TEXT: usize = 576460752303423488;
 
 // The text, gone through, or why it was not.
 enum Text {
@@ -81,16 +75,24 @@ fn finish(reader: Reader, fields: &mut [u32], numbers: &mut [u32], places: &mut 
 
 // Writes the table's bytes, or on standard error the line for a text that can't be read.
 fn write_answer(state: State, numbers: &[u32])
-    requires { ⌜ state .number < 18446744073709551616 ⌝ }
-    requires { ⌜ Roomy (state .counts) ⌝ }
-    requires { ⌜ length (now numbers) ≡ 1393 ⌝ }
+    requires { ⌜ Ended state (now numbers) ⌝ }
 {
     let mut out = [0u8; typed::LONGEST];
     let answer = respond(state, numbers, &mut out);
     send(answer, &out);
 }
 
-// Writes the bytes to standard output, and what is wrong to standard error.
+// Puts the whole answer into a buffer that holds any.
+fn respond(state: State, numbers: &[u32], out: &mut [u8]) -> Answer
+    requires { ⌜ Ended state (now numbers) ⌝ }
+    requires { ⌜ 4589 ≤ length (now out) ⌝ }
+    ensures { λ r. ⌜ AnswersText state (now (numbers .entry)) (now (out .entry)) r (now (out .exit)) ⌝ }
+    ensures { λ r. ⌜ endIn r ≤ length (now (out .exit)) ⌝ }
+{
+    typed::respond(state, numbers, out)
+}
+
+// Writes what was asked for to standard output, and what is wrong to standard error.
 fn send(answer: Answer, out: &[u8])
     requires { ⌜ endIn answer ≤ length (now out) ⌝ }
 {
@@ -106,47 +108,16 @@ fn write(file: i32, out: &[u8], end: usize)
     io::write_all(file, &out[..end]);
 }
 
-// Puts the whole answer into a buffer that holds any.
-fn respond(state: State, numbers: &[u32], out: &mut [u8]) -> Answer
-    requires { ⌜ state .number < 18446744073709551616 ⌝ }
-    requires { ⌜ Roomy (state .counts) ⌝ }
-    requires { ⌜ length (now numbers) ≡ 1393 ⌝ }
-    requires { ⌜ 4589 ≤ length (now out) ⌝ }
-    ensures { λ r. ⌜ saysFaulty r ≡ isWrong (state .line) ⌝ }
-    ensures { λ r. ⌜ Whole (now (out .entry)) (keptText (state .line) state (now (numbers .entry))) (endIn r) (now (out .exit)) ⌝ }
-    ensures { λ r. ⌜ endIn r ≤ length (now (out .exit)) ⌝ }
-{
-    typed::respond(state, numbers, out)
-}
-
-// Writes the line of the place that is asked for; a text that can't be read has none.
+// Writes the line of the place that is asked for, which is the first argument.
 fn write_place(state: State, numbers: &[u32], places: &[u64])
-    requires { ⌜ state .number < 18446744073709551616 ⌝ }
-    requires { ⌜ Roomy (state .counts) ⌝ }
-    requires { ⌜ length (now numbers) ≡ 1393 ⌝ }
-    requires { ⌜ length (now places) ≡ 265 ⌝ }
-{
-    let line = state.line;
-    let counts = state.counts;
-    match line {
-        Line::Blank => ask_place(counts, numbers, places),
-        Line::Filling(_, _) => ask_place(counts, numbers, places),
-        Line::Wrong(_) => write_answer(state, numbers),
-    }
-}
-
-// Reads the place, which is the first argument.
-fn ask_place(counts: Counts, numbers: &[u32], places: &[u64])
-    requires { ⌜ Roomy counts ⌝ }
-    requires { ⌜ length (now numbers) ≡ 1393 ⌝ }
-    requires { ⌜ length (now places) ≡ 265 ⌝ }
+    requires { ⌜ After state (now numbers) (now places) ⌝ }
 {
     let mut text = io::buffer();
     let length = os::arg(1, &mut text);
     let mut words = [0u32; 1];
     let scanned = scanning::numbers(&text[..length], &mut words);
     match scanned {
-        Scanned::Numbers(count) => say_place(count, words[0], counts, numbers, places),
+        Scanned::Numbers(count) => say_place(count, words[0], state, numbers, places),
         Scanned::Unreadable(_) => say_no_place(),
     }
 }
@@ -158,18 +129,30 @@ fn say_no_place() {
     );
 }
 
-// Says in which line the field stands.
-fn say_place(count: usize, place: u32, counts: Counts, numbers: &[u32], places: &[u64])
-    requires { ⌜ Roomy counts ⌝ }
-    requires { ⌜ length (now numbers) ≡ 1393 ⌝ }
-    requires { ⌜ length (now places) ≡ 265 ⌝ }
+// Says in which line the field stands; a text that can't be read has none.
+fn say_place(count: usize, place: u32, state: State, numbers: &[u32], places: &[u64])
+    requires { ⌜ After state (now numbers) (now places) ⌝ }
 {
     if count != 1 {
         say_no_place();
         return;
     }
     let mut out = [0u8; typed::LONGEST];
-    let version = typed::version_of(counts, numbers[0]);
-    let end = typed::places::place_line(counts, version, places, place as usize, &mut out);
-    write(STDOUT_FILENO, &out, end);
+    let answer = respond_place(state, numbers, places, place as usize, &mut out);
+    send(answer, &out);
+}
+
+// Puts the line of the place into a buffer.
+fn respond_place(
+    state: State,
+    numbers: &[u32],
+    places: &[u64],
+    place: usize,
+    out: &mut [u8],
+) -> Answer
+    requires { ⌜ After state (now numbers) (now places) ⌝ }
+    ensures { λ r. ⌜ AnswersPlace state (now (numbers .entry)) (now (places .entry)) place (now (out .entry)) r (now (out .exit)) ⌝ }
+    ensures { λ r. ⌜ endIn r ≤ length (now (out .exit)) ⌝ }
+{
+    typed::places::respond_place(state, numbers, places, place, out)
 }

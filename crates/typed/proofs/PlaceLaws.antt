@@ -24,13 +24,12 @@ use Rattle.words.specs.Words.{eventsOf}
 use Rattle.typing.specs.declared.lines.Counts.{Counts}
 use Rattle.typing.specs.declared.lines.Line.{Line}
 use Rattle.typing.specs.declared.lines.Line.the-variants.{Blank, Filling, Wrong}
-use Rattle.typing.specs.Reading.{Typed, Draft, versionFor, Reading, given, outcomeAt, readingOf}
+use Rattle.typing.specs.Reading.{Typed, Draft, versionFor, outcomeAt, readingOf}
 use Rattle.typing.specs.Kept.{numberAt, taskLineKept, rowLineKept, Holds, TypedFits, keptBehind, draftBehind, Ready}
 use Rattle.typing.proofs.KeptLaws.{typedKept}
 use Rattle.typed.specs.Bytes.{Roomy, versionKept}
-use Rattle.typed.specs.Answered.{isFaulty}
 use Rattle.typed.proofs.AnswerLaws.{version-is}
-use Rattle.typed.specs.Places.{said, headName, recordName, rowName, headSaid, rowSaid, placeSaid, placeKept, lineIn, placeTyped, placeFor, recordFieldName, rowFieldName, countFieldName, PlaceSaid}
+use Rattle.typed.specs.Places.{said, headName, recordName, rowName, headSaid, rowSaid, placeSaid, placeKept, placeAnswer, lineIn, placeTyped, placeFor, recordFieldName, rowFieldName, countFieldName, PlaceSaid}
 
 -- the record in which a byte stands
 size-some : (behind size tasks : ℕ) → behind < size * tasks → 0 < size
@@ -217,27 +216,22 @@ kept-said typed counts numbers places place h f =
     sym (getD-tabulate (rowLineKept places) (counts .sections) k 0 l) ∙ ap (λ (lines : List ℕ). lineIn lines k) (h .rowLines))
     place)
 
-by-line : (line : Line) (draft : Draft) (numbers places : List ℕ) (place version : ℕ) (typed : Typed) →
-    Holds (draft .typed) (draft .state .counts) numbers places → TypedFits (draft .state .counts) (draft .typed) → outcomeAt line draft ≡ given version typed →
-    placeKept (draft .state .counts) (versionKept (draft .state .counts) (numberAt numbers 0)) places place ≡ placeTyped version typed place
-by-line Blank draft numbers places place version typed h f e =
-    kept-said (draft .typed) (draft .state .counts) numbers places place h f ∙ ap (λ (reading : Reading). placeFor reading place) e
-by-line (Filling kind count) draft numbers places place version typed h f e =
-    kept-said (draft .typed) (draft .state .counts) numbers places place h f ∙ ap (λ (reading : Reading). placeFor reading place) e
-by-line (Wrong fault) draft numbers places place version typed h f e =
-    absurd (clash (isFaulty (given version typed)) (sym (ap isFaulty e)) refl)
+by-line : (line : Line) (draft : Draft) (numbers places : List ℕ) (place : ℕ) →
+    Holds (draft .typed) (draft .state .counts) numbers places → TypedFits (draft .state .counts) (draft .typed) →
+    placeAnswer line (draft .state) numbers places place ≡ placeFor (outcomeAt line draft) place
+by-line Blank draft numbers places place h f = kept-said (draft .typed) (draft .state .counts) numbers places place h f
+by-line (Filling kind count) draft numbers places place h f = kept-said (draft .typed) (draft .state .counts) numbers places place h f
+by-line (Wrong fault) draft numbers places place h f = refl
 
-kept-behind : (numbers places text : List ℕ) (place version : ℕ) (typed : Typed) → Ready numbers places → readingOf text ≡ given version typed →
-    placeKept (keptBehind numbers places (eventsOf text) .state .counts)
-    (versionKept (keptBehind numbers places (eventsOf text) .state .counts) (numberAt (keptBehind numbers places (eventsOf text) .numbers) 0))
-    (keptBehind numbers places (eventsOf text) .places) place
-    ≡ placeTyped version typed place
+kept-behind : (numbers places text : List ℕ) (place : ℕ) → Ready numbers places →
+    placeAnswer (keptBehind numbers places (eventsOf text) .state .line) (keptBehind numbers places (eventsOf text) .state)
+    (keptBehind numbers places (eventsOf text) .numbers) (keptBehind numbers places (eventsOf text) .places) place
+    ≡ placeFor (readingOf text) place
 unfolding readingOf
-kept-behind numbers places text place version typed r e =
+kept-behind numbers places text place r =
     rw (typedKept .same numbers places (eventsOf text) r)
     (by-line (draftBehind (eventsOf text) .state .line) (draftBehind (eventsOf text)) (keptBehind numbers places (eventsOf text) .numbers)
-    (keptBehind numbers places (eventsOf text) .places) place version typed (typedKept .holds numbers places (eventsOf text) r)
-    (typedKept .fits (eventsOf text)) e)
+    (keptBehind numbers places (eventsOf text) .places) place (typedKept .holds numbers places (eventsOf text) r) (typedKept .fits (eventsOf text)))
 
 pub placeSaidRight : PlaceSaid
 placeSaidRight =

@@ -16,11 +16,17 @@ use Rattle.tables.specs.Meaning.{Known}
 use Rattle.tables.specs.Refusals.{placeOf}
 use Rattle.printing.specs.Text.{bytesOf, withNumber}
 use Rattle.words.specs.Words.{eventsOf}
+use Rattle.printing.specs.Appended.{Appended}
 use Rattle.typing.specs.declared.lines.Counts.{Counts}
+use Rattle.typing.specs.declared.lines.Line.{Line}
+use Rattle.typing.specs.declared.lines.Line.the-variants.{Blank, Filling, Wrong}
+use Rattle.typing.specs.declared.State.{State}
 use Rattle.typing.specs.Reading.{Typed, Reading, given, faulty, readingOf}
 use Rattle.typing.specs.Kept.{numberAt, taskLineKept, rowLineKept, keptBehind, Ready}
 use Rattle.typed.specs.Bytes.{versionKept}
 use Rattle.typed.specs.Messages.{faultLine}
+use Rattle.typed.specs.declared.Answer.{Answer}
+use Rattle.typed.specs.Answered.{isWrong, endIn, saysFaulty}
 
 -- `line 3: cost`, or `no line: number of tasks` for what stands in no line
 abbrev pub lineSaid : ℕ → List ℕ
@@ -65,6 +71,16 @@ abbrev pub placeKept : Counts → ℕ → List ℕ → ℕ → List ℕ
 placeKept counts version places place =
     placeSaid (layoutFor version) (counts .tasks) (counts .sections) (numberAt places 0) (taskLineKept places) (rowLineKept places) place
 
+-- and what is answered: a text that can't be read has its fault's line
+abbrev pub placeAnswer : Line → State → List ℕ → List ℕ → ℕ → List ℕ
+placeAnswer Blank state numbers places place = placeKept (state .counts) (versionKept (state .counts) (numberAt numbers 0)) places place
+placeAnswer (Filling kind count) state numbers places place = placeKept (state .counts) (versionKept (state .counts) (numberAt numbers 0)) places place
+placeAnswer (Wrong fault) state numbers places place = faultLine (state .number) fault
+
+pub record PlaceAnswered (state : State) (numbers places : List ℕ) (place : ℕ) (old : List ℕ) (answer : Answer) (new : List ℕ) : Type 0 where
+  pub faultIs : saysFaulty answer ≡ isWrong (state .line)
+  pub textIs : Appended old 0 (placeAnswer (state .line) state numbers places place) (endIn answer) new
+
 -- by what is typed
 abbrev pub lineIn : List ℕ → ℕ → ℕ
 lineIn lines i = getD lines i 0
@@ -101,12 +117,11 @@ countFieldName rowCountField = bytesOf "number of sections"
 
 -- "The place-to-line answer: the field that stands there."
 pub record PlaceSaid : Type 0 where
-  -- what the code says of a text that can be read is said of what is typed
-  pub kept : (numbers places text : List ℕ) (place version : ℕ) (typed : Typed) → Ready numbers places → readingOf text ≡ given version typed →
-      placeKept (keptBehind numbers places (eventsOf text) .state .counts)
-      (versionKept (keptBehind numbers places (eventsOf text) .state .counts) (numberAt (keptBehind numbers places (eventsOf text) .numbers) 0))
-      (keptBehind numbers places (eventsOf text) .places) place
-      ≡ placeTyped version typed place
+  -- what the code answers behind a text is what that text is read as, for any byte
+  pub kept : (numbers places text : List ℕ) (place : ℕ) → Ready numbers places →
+      placeAnswer (keptBehind numbers places (eventsOf text) .state .line) (keptBehind numbers places (eventsOf text) .state)
+      (keptBehind numbers places (eventsOf text) .numbers) (keptBehind numbers places (eventsOf text) .places) place
+      ≡ placeFor (readingOf text) place
   -- where a refusal points at a field of task i, that field is named, with the line of that task
   pub inRecord : (version : ℕ) (typed : Typed) (i : ℕ) (field : RecordField) → Known version → i < length (typed .tasks) →
       placeTyped version typed (placeOf (refusalInRecord (layoutFor version) i field))

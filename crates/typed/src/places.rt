@@ -5,25 +5,56 @@ ghost use lib.Dec.{ltb};
 ghost use lib.ListN.{length};
 ghost use Rattle.model.specs.Choice.{pick, on};
 ghost use Rattle.printing.specs.Appended.{Appended};
-ghost use Rattle.typing.specs.Kept.{rowLineKept};
-ghost use Rattle.typed.specs.Bytes.{Roomy};
-ghost use Rattle.typed.specs.Places.{lineSaid, said, headName, delayName, recordName, rowName, headSaid, rowSaid, placeKept};
+ghost use Rattle.typing.specs.Kept.{numberAt, rowLineKept};
+ghost use Rattle.typed.specs.Bytes.{Roomy, versionKept};
+ghost use Rattle.typed.specs.Places.{lineSaid, said, headName, delayName, recordName, rowName, headSaid, rowSaid, placeKept, PlaceAnswered};
 ghost use Rattle.printing.specs.Text.{bytesOf};
+use crate::Answer;
+use crate::fault_line;
+use crate::version_of;
 use printing::append;
 use printing::append_with_number;
 use tables::HEAD_SIZE;
 use tables::ROW_SIZE;
 use tables::layout::DelayFields;
 use typing::Counts;
+use typing::Line;
+use typing::State;
 
-// The line for a byte of the table, put at the buffer's beginning; answers where it ends.
-pub fn place_line(
-    counts: Counts,
-    version: u8,
+// The answer for a byte of the table of a text that is gone through: the line of what stands there, or, where the text can't be read, the
+// one for its fault.
+pub fn respond_place(
+    state: State,
+    numbers: &[u32],
     places: &[u64],
     place: usize,
     out: &mut [u8],
-) -> usize
+) -> Answer
+    requires { ⌜ Roomy (state .counts) ⌝ }
+    requires { ⌜ (length (now numbers) ≡ 1393) × (length (now places) ≡ 265) ⌝ }
+    ensures { λ r. ⌜ PlaceAnswered state (now (numbers .entry)) (now (places .entry)) place (now (out .entry)) r (now (out .exit)) ⌝ }
+{
+    let counts = state.counts;
+    let line = state.line;
+    match line {
+        Line::Blank => Answer::Bytes(line_of(counts, numbers, places, place, out)),
+        Line::Filling(_, _) => Answer::Bytes(line_of(counts, numbers, places, place, out)),
+        Line::Wrong(fault) => Answer::Faulty(fault_line(out, state.number, fault)),
+    }
+}
+
+// The line for a byte of the table in the version that it has.
+fn line_of(counts: Counts, numbers: &[u32], places: &[u64], place: usize, out: &mut [u8]) -> usize
+    requires { ⌜ Roomy counts ⌝ }
+    requires { ⌜ (length (now numbers) ≡ 1393) × (length (now places) ≡ 265) ⌝ }
+    ensures { λ r. ⌜ Appended (now (out .entry)) 0 (placeKept counts (versionKept counts (numberAt (now (numbers .entry)) 0)) (now (places .entry)) place) r (now (out .exit)) ⌝ }
+{
+    let version = version_of(counts, numbers[0]);
+    place_line(counts, version, places, place, out)
+}
+
+// The line for a byte of the table, put at the buffer's beginning; answers where it ends.
+fn place_line(counts: Counts, version: u8, places: &[u64], place: usize, out: &mut [u8]) -> usize
     requires { ⌜ Roomy counts ⌝ }
     requires { ⌜ length (now places) ≡ 265 ⌝ }
     ensures { λ r. ⌜ Appended (now (out .entry)) 0 (placeKept counts version (now (places .entry)) place) r (now (out .exit)) ⌝ }

@@ -1,19 +1,19 @@
 -- `to_bytes::finish` meets its contract.
 -- Assumes nothing.
 use native.Mathlib.Omega.{arith}
-use Rattle.to_bytes.proofs.TextLaws.{behind-sized, behind-bounded, behind-number, behind-after, after-roomy, after-long, after-placed}
+use Rattle.texts.proofs.TextLaws.{behind-sized, behind-bounded, behind-after}
 use borrow.Author.Needs.{needs}
 use Rattle.to_bytes.proofs.finish.Statement.{statement}
 use Rattle.to_bytes.proofs.finish.Tie as tie
 
 take-byte-requires : tie.Need-take-byte-requires
-take-byte-requires c κs = (behind-bounded (c .before .before .before .before .before .before .pre) 1 (omega (arith, c .before .before .before .before .before .before .pre .counted)), behind-sized (c .before .before .before .before .before .before .pre) .fields)
+take-byte-requires c κs = (behind-bounded (c .before .before .before .before .before .before .pre .is) 1 (omega (arith, c .before .before .before .before .before .before .pre .is .counted)), behind-sized (c .before .before .before .before .before .before .pre .is) .fields)
 
 arg-count-requires : tie.Need-arg-count-requires
 arg-count-requires c κs = search needs
 
 write-answer-requires : tie.Need-write-answer-requires
-write-answer-requires c κs = (behind-number (c .before .before .before .before .before .before .before .before .before .before .before .before .before .before .before .before .before .pre) (c .before .before .before .before .before .before .before .before .before .before .take-byte .ensures .1), (after-roomy (behind-after (c .before .before .before .before .before .before .before .before .before .before .before .before .before .before .before .before .before .pre) (c .before .before .before .before .before .before .before .before .before .before .take-byte .ensures .1)), after-long (behind-after (c .before .before .before .before .before .before .before .before .before .before .before .before .before .before .before .before .before .pre) (c .before .before .before .before .before .before .before .before .before .before .take-byte .ensures .1))))
+write-answer-requires c κs = record { text = c .before .before .before .before .before .before .before .before .before .before .before .before .before .before .before .before .before .pre .text; places = _; is = behind-after (c .before .before .before .before .before .before .before .before .before .before .before .before .before .before .before .before .before .pre .is) (c .before .before .before .before .before .before .before .before .before .before .take-byte .ensures .1) }
 
 same-length : tie.Need-same-length
 same-length c = search needs
@@ -28,7 +28,7 @@ returns : tie.Need-returns
 returns c = search needs
 
 write-place-requires : tie.Need-write-place-requires
-write-place-requires c κs = (behind-number (c .before .before .before .before .before .before .before .before .before .before .before .before .before .before .before .before .before .before .pre) (c .before .before .before .before .before .before .before .before .before .before .before .take-byte .ensures .1), (after-roomy (behind-after (c .before .before .before .before .before .before .before .before .before .before .before .before .before .before .before .before .before .before .pre) (c .before .before .before .before .before .before .before .before .before .before .before .take-byte .ensures .1)), (after-long (behind-after (c .before .before .before .before .before .before .before .before .before .before .before .before .before .before .before .before .before .before .pre) (c .before .before .before .before .before .before .before .before .before .before .before .take-byte .ensures .1)), after-placed (behind-after (c .before .before .before .before .before .before .before .before .before .before .before .before .before .before .before .before .before .before .pre) (c .before .before .before .before .before .before .before .before .before .before .before .take-byte .ensures .1)))))
+write-place-requires c κs = record { text = c .before .before .before .before .before .before .before .before .before .before .before .before .before .before .before .before .before .before .pre .text; is = behind-after (c .before .before .before .before .before .before .before .before .before .before .before .before .before .before .before .before .before .before .pre .is) (c .before .before .before .before .before .before .before .before .before .before .before .take-byte .ensures .1) }
 
 same-length-4 : tie.Need-same-length-4
 same-length-4 c = search needs

@@ -4,7 +4,8 @@ use Prim.Native.Nat.{_-_}
 use borrow.Author.Needs.{needs}
 use native.Mathlib.Omega.{arith}
 use mathlib.Core.Path.{sym, _∙_, ap}
-use Rattle.to_bytes.proofs.TextLaws.{Sofar, sofar-none, sofar-behind, sofar-fields, sofar-numbers, sofar-places, sofar-bounded, sofar-more, behind-sized}
+use Rattle.texts.proofs.TextLaws.{behind-sized}
+use Rattle.to_bytes.proofs.ReadLaws.{Sofar, sofar-none, sofar-behind, sofar-fields, sofar-numbers, sofar-places, sofar-bounded, sofar-more}
 use Rattle.to_bytes.proofs.read_text.Statement.{statement}
 use Rattle.to_bytes.proofs.read_text.Tie as tie
 
@@ -66,7 +67,7 @@ slice-aggregate-go-on : tie.Need-slice-aggregate-go-on Inv-loop μ-loop
 slice-aggregate-go-on c = search needs
 
 go-on-requires : tie.Need-go-on-requires Inv-loop μ-loop
-go-on-requires c κs = (sofar-bounded (c .before .before .before .before .before .before .before .before .before .before .before .before .loop .inv) (c .before .before .before .before .before .before .before .before .before .before .before .loop-test .taken) (c .before .before .before .before .before .before .before .before .before .read .last .1 .0) (c .before .before .before .before .before .count .result) (c .before .before .before .before .before .before .before .before .before .read .kept .1 .0 ∙ c .before .before .before .before .before .before .before .before .before .before .before .before .loop .inv .room) (c .before .before .before .before .before .count .ensures .0), behind-sized (sofar-behind (c .before .before .before .before .before .before .before .before .before .before .before .before .loop .inv)) .fields)
+go-on-requires c κs = (sofar-bounded (c .before .before .before .before .before .before .before .before .before .before .before .before .loop .inv) (c .before .before .before .before .before .before .before .before .before .before .before .loop-test .taken) (c .before .before .before .before .before .before .before .before .before .read .last .1 .0) (c .before .before .before .before .before .count .result) (c .before .before .before .before .before .before .before .before .before .read .kept .1 .0 ∙ c .before .before .before .before .before .before .before .before .before .before .before .before .loop .inv .room) (c .before .before .before .before .before .count .ensures .0), behind-sized (c .before .before .before .before .before .before .before .before .before .before .before .before .loop .inv .behind) .fields)
 
 add-total : tie.Need-add-total Inv-loop μ-loop
 add-total c = omega (arith, c .before .before .before .before .before .before .before .before .before .before .before .before .before .before .before .before .before .before .loop-test .taken, c .before .before .before .before .before .before .before .before .before .before .before .before .count .ensures .0 .0, c .before .before .before .before .before .before .before .before .before .before .before .before .before .before .before .before .read .kept .1 .0, c .before .before .before .before .before .before .before .before .before .before .before .before .before .before .before .before .before .before .before .loop .inv .room)

@@ -1,0 +1,2 @@
+pub mod TextLaws
+pub mod GivenLaws
