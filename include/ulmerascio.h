@@ -10,11 +10,60 @@
  * claims, and says whether they hold. The second analysis is for tables in which a deadline may be
  * longer than the task's period. docs/SPECIFICATION.md has all the rules and terms.
  *
- * ulmerascio_analyse is in libfirmware.a, ulmerascio_analyse_from_own_cost in libmarking.a,
- * ulmerascio_play in libplayer.a, ulmerascio_check_claims in libclaims.a and
- * ulmerascio_analyse_past_period in liboverlaps.a, each made by "rt staticlib" and the library's
- * name; none of them needs another, and a program may link them all. A call needs up to 8 KB of
- * stack.
+ * THE LIBRARY. All functions are in one archive, libulmerascio.a, which the command ./library makes
+ * in the folder target/c, with a copy of this header beside it:
+ *
+ *     gcc -Itarget/c -o program program.c target/c/libulmerascio.a
+ *
+ * ("./library install PREFIX" installs both.) The header needs C99 or C++, and of other headers
+ * stddef.h and stdint.h, which come with the compiler.
+ *
+ * WHAT MAY BE LENT. No pointer may be null, even where its length is 0. If a table or a list is
+ * refused, no word of any slice is changed. What a call reads and writes must not overlap.
+ *
+ * MEMORY. A call uses the stack and what it is lent: no heap, and no global variables; the archive
+ * has no data that can be written. So the functions are reentrant: they may be called from several
+ * threads at once, and from a signal handler that interrupts a call, if each call has slices of its
+ * own to write to. (They use the SSE registers and the 128 bytes below the stack pointer, as the
+ * calling convention allows. Whoever calls them from an interrupt without an operating system has
+ * to keep those for what was interrupted.)
+ *
+ * THE C LIBRARY. One function of it is called: memset, with which the compiler clears arrays. Where
+ * there is no C library, supply a memset of your own, and have gcc compile it with -ffreestanding:
+ * else it may turn the loop in it into a call of memset.
+ *
+ * STACK AND TIME of a call: bytes of stack, the return address with them, and millions of
+ * instructions.
+ *
+ *                                       stack  32 tasks  200 tasks  slowest    no table takes
+ *                                       bytes                       found      more than
+ *     ulmerascio_analyse                6,700    0.06      1.2        3,520       650,000
+ *     ulmerascio_analyse_from_own_cost  6,700    0.06      1.2        3,520       650,000
+ *     ulmerascio_play                   7,400    3.0       5.7        3,110         3,200
+ *     ulmerascio_check_claims           5,800    0.011     0.29           0.55          0.6
+ *     ulmerascio_analyse_past_period    6,700    0.023     0.46     116,000    42,000,000
+ *
+ * The stack was measured, and agrees with what the machine code takes; the numbers are rounded up.
+ * To them comes what memset itself uses: next to nothing, but some 3,000 bytes at the first call in
+ * a program that is linked dynamically and looks for memset only then. The instructions for 32 and
+ * for 200 tasks were counted, on tables as one meets them: schedulable, and near full load. The
+ * slowest found were counted too, on tables that were made to be slow; slower ones may exist. The
+ * last column was not counted but reckoned, from how often each loop can run at most and how many
+ * instructions it has. docs/PERFORMANCE.md tells how ("The greatest cost"), and has the same for up
+ * to 32 tasks. So let nothing wait for an analysis or the engine that gets tables from strangers;
+ * a check of claims is always quick.
+ *
+ * THE PROCESSOR. The archive is for x86-64 and Linux: the System V calling convention, position
+ * independent code, and instructions that every x86-64 processor has. With another processor there
+ * are three ways:
+ *
+ *   - Decide where the table is made, on a PC, with "./answers" or with this library, and load only
+ *     tables that were found schedulable. The answers hold for every processor that works as
+ *     described above.
+ *   - Run a program with this library under an emulator, such as qemu-user.
+ *   - Compile the plain C in the folder bench (plain.h and plain*.c), for any processor. It is
+ *     written to the same rules, and tests/c/run compares it with this library on every test table;
+ *     but it is not proved.
  */
 #ifndef ULMERASCIO_H
 #define ULMERASCIO_H
