@@ -57,7 +57,7 @@ NoSecondAnswer =
     (state : State) (numbers old : List ℕ) (answer other : Answer) (new another : List ℕ) →
     Answered state numbers old answer new → Answered state numbers old other another → (answer ≡ other) × (new ≡ another)
 
--- For any text, whatever the slices held before.
+-- For any text. The slices for numbers and lines may have held anything before, but for the version's line; the fields of a line begin at 0.
 pub record TextAnswered : Type 0 where
   pub textIs : (numbers places text : List ℕ) → Ready numbers places →
       keptText (keptBehind numbers places (eventsOf text) .state .line) (keptBehind numbers places (eventsOf text) .state) (keptBehind numbers places (eventsOf text) .numbers)
