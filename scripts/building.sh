@@ -24,6 +24,18 @@ crates_below() {
     ' "$top/crates.txt"
 }
 
+# changed_since FILE CRATE..: is a source of these crates, or of one that they stand on, newer than the file?
+changed_since() {
+    built=$1
+    shift
+    below=$(crates_below "$@")
+    set -- "$top/crates.txt"
+    for crate in $below; do
+        set -- "$@" "$top/crates/$crate"
+    done
+    [ -n "$(find "$@" -newer "$built" -type f \( -path '*/src/*' -o -path '*/specs/*' -o -path '*/proofs/*' -o -name crates.txt \))" ]
+}
+
 # unproved CRATE..: of the crates below these, those that have changed since they were last proved, or stand on one that has. It
 # goes by the files' times, so that it may name a crate too many; rt goes by what the files hold.
 unproved() {
@@ -72,8 +84,9 @@ tell_begun() {
 
 # One command builds at a time. The lock goes with the process that builds, also where this one is killed.
 take_lock() {
-    mkdir -p "$top/target/building" || fail 1 "there is no place to build in: $top/target"
-    exec 9>"$top/target/building/lock"
+    # (sh itself would end, with its own status, where "exec" can't open the file)
+    (mkdir -p "$top/target/building" && : >>"$top/target/building/lock") 2>/dev/null || fail 1 "$top/target cannot be written to, which is where it is built"
+    exec 9>>"$top/target/building/lock"
     flock -n 9 || {
         printf '%s: another command is building; waiting for it\n' "$command" >&2
         flock 9
