@@ -3,7 +3,7 @@
 use Prim.Native.Nat.{ℕ, _≤_, _<_}
 use native.Mathlib.Omega.{arith}
 use mathlib.Core.Path.{_≡_, refl, sym, _∙_, ap, subst}
-use mathlib.Core.Bool.{Bool, true, false}
+use mathlib.Core.Bool.{Bool}
 use mathlib.Core.Logic.{inl, inr}
 use mathlib.Core.List.{List}
 use lib.ListN.{length}
@@ -14,7 +14,7 @@ use Rattle.printing.proofs.AppendLaws.{noSecondText, as-text}
 use Rattle.typing.specs.declared.State.{State}
 use Rattle.typing.specs.Reading.{Reading, given, faulty, readingOf}
 use Rattle.typed.specs.declared.Answer.{Answer}
-use Rattle.typed.specs.Answered.{Answered, isFaulty, isWrong, endIn, saysFaulty}
+use Rattle.typed.specs.Answered.{Answered, isFaulty, endIn, saysFaulty}
 use Rattle.typed.specs.Places.{PlaceAnswered}
 use Rattle.texts.specs.declared.Given.{Given}
 use Rattle.texts.specs.declared.Given.the-variants as variants

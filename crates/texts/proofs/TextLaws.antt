@@ -1,23 +1,22 @@
 -- What is known of a text, piece by piece and behind its end.
 -- Assumes nothing.
-use Prim.Native.Nat.{ℕ, suc, _+_, _-_, _≤_, _<_}
+use Prim.Native.Nat.{ℕ, _+_, _<_}
 use native.Mathlib.Omega.{arith}
 use mathlib.Core.Path.{_≡_, refl, sym, _∙_, ap}
 use mathlib.Core.List.{List, [], _∷_, _++_, append-nil}
-use lib.ListN.{length, replicate, length-append}
+use lib.ListN.{length, length-append}
 use Rattle.words.specs.declared.Spot.{Spot}
-use Rattle.words.specs.Words.{Event, eventsOf}
-use Rattle.words.specs.Steps.{begun, spotBy, heardBy, heardIn, spotAfter}
+use Rattle.words.specs.Words.{eventsOf}
+use Rattle.words.specs.Steps.{begun, heardBy, heardIn, spotAfter}
 use Rattle.words.proofs.HeardLaws.{wordsHeard}
 use Rattle.typing.specs.declared.State.{State}
 use Rattle.typing.specs.declared.Reader.{Reader}
 use Rattle.typing.specs.Lines.{noFields}
-use Rattle.typing.specs.Reading.{stateBegun, readingOf}
+use Rattle.typing.specs.Reading.{stateBegun}
 use Rattle.typing.specs.Steps.{start, Bounded, Memory, memory, memoryAfter}
 use Rattle.typing.specs.Kept.{keptBehind, Ready}
 use Rattle.typing.proofs.MemoryLaws.{memory-append, bounded-byte, bounded-piece, Sized, sized-after}
 use Rattle.typed.specs.Bytes.{Roomy}
-use Rattle.typed.specs.Answered.{textFor, isFaulty, keptText, isWrong}
 use Rattle.typed.proofs.AnswerLaws.{textAnswered}
 use Rattle.typed.proofs.PlaceLaws.{placeSaidRight}
 use Rattle.texts.specs.Given.{mostText}

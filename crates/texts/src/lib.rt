@@ -1,7 +1,6 @@
 // A whole text: the bytes of the table that is typed in it, or the line of its fault; and the line of a byte of that table (SPECIFICATION 14).
 ghost use Prim.Native.Nat.{_<_};
 ghost use mathlib.Core.Path.{_≡_};
-ghost use mathlib.Core.Bool.{false};
 ghost use lib.ListN.{length};
 ghost use Rattle.model.specs.Choice.{on};
 ghost use Rattle.typed.specs.Answered.{endIn, saysFaulty};

@@ -17,9 +17,9 @@ use Rattle.typed.specs.declared.Answer.{Answer}
 use Rattle.typed.specs.Answered.{keptText, endIn, Answered}
 use Rattle.typed.specs.Places.{PlaceAnswered}
 use Rattle.typed.proofs.AnswerLaws.{answerFits}
-use Rattle.texts.specs.Behind.{Empty, BehindText, AfterText}
+use Rattle.texts.specs.Behind.{Empty, BehindText}
 use Rattle.texts.proofs.TextLaws.{behind-none, behind-sized, behind-bounded, behind-more, after-roomy, answerOfText}
-use Rattle.to_bytes.specs.Texts.{Behind, After, Ended, AnswersText, AnswersPlace}
+use Rattle.to_bytes.specs.Texts.{Behind, Ended, AnswersText, AnswersPlace}
 
 -- the whole answer, and that it ends within the buffer
 module _ {state : State} {numbers old new : List ℕ} {answer : Answer} (e : Ended state numbers) (room : 4589 ≤ length old)

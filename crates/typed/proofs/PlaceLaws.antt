@@ -4,7 +4,6 @@ use Prim.Native.Nat.{ℕ, zero, suc, _+_, _-_, _*_, _/_, _%_, _≤_, _<_}
 use native.Mathlib.Nat.{div-lt-iff-lt-mul, mul-le-mul}
 use native.Mathlib.Omega.{arith}
 use mathlib.Core.Path.{_≡_, refl, sym, _∙_, ap}
-use mathlib.Core.Bool.{true, false}
 use mathlib.Core.Logic.{inl, inr}
 use mathlib.Core.List.{List}
 use lib.Dec.{ltb}
@@ -18,7 +17,7 @@ use Rattle.tables.specs.Layout.{layoutFor, latestAt, versionOne, versionTwo, ve
 use Rattle.tables.specs.Meaning.{Known}
 use Rattle.tables.specs.Refusals.{placeOf}
 use Rattle.printing.specs.Text.{bytesOf}
-use Rattle.model.proofs.Tests.{bool?, ltb?, clash}
+use Rattle.model.proofs.Tests.{bool?, ltb?}
 use Rattle.model.proofs.Lists.{getD-tabulate}
 use Rattle.words.specs.Words.{eventsOf}
 use Rattle.typing.specs.declared.lines.Counts.{Counts}
@@ -27,7 +26,7 @@ use Rattle.typing.specs.declared.lines.Line.the-variants.{Blank, Filling, Wrong
 use Rattle.typing.specs.Reading.{Typed, Draft, versionFor, outcomeAt, readingOf}
 use Rattle.typing.specs.Kept.{numberAt, taskLineKept, rowLineKept, Holds, TypedFits, keptBehind, draftBehind, Ready}
 use Rattle.typing.proofs.KeptLaws.{typedKept}
-use Rattle.typed.specs.Bytes.{Roomy, versionKept}
+use Rattle.typed.specs.Bytes.{versionKept}
 use Rattle.typed.proofs.AnswerLaws.{version-is}
 use Rattle.typed.specs.Places.{said, headName, recordName, rowName, headSaid, rowSaid, placeSaid, placeKept, placeAnswer, lineIn, placeTyped, placeFor, recordFieldName, rowFieldName, countFieldName, PlaceSaid}
 

@@ -3,7 +3,7 @@
 use Prim.Native.Nat.{_-_}
 use borrow.Author.Needs.{needs}
 use native.Mathlib.Omega.{arith}
-use mathlib.Core.Path.{sym, _∙_, ap}
+use mathlib.Core.Path.{sym, _∙_}
 use Rattle.texts.proofs.TextLaws.{behind-sized}
 use Rattle.to_bytes.proofs.ReadLaws.{Sofar, sofar-none, sofar-behind, sofar-fields, sofar-numbers, sofar-places, sofar-bounded, sofar-more}
 use Rattle.to_bytes.proofs.read_text.Statement.{statement}
