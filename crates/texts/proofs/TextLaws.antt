@@ -77,10 +77,10 @@ module _ {text : List ℕ} {reader : Reader} {fields numbers places : List ℕ} 
       ∙ ap (memoryAfter beginning) (sym (wordsHeard .joins begun text (10 ∷ [])) ∙ wordsHeard .whole text)
 
   -- the number of the last line
-  number-small : {state : State} {mores others spaces : List ℕ} →
+  pub behind-number : {state : State} {mores others spaces : List ℕ} →
       memory state mores others spaces ≡ memoryAfter (memory (reader .state) fields numbers places) (heardBy (reader .spot) 10) →
       state .number < 18446744073709551616
-  number-small {state} q =
+  behind-number {state} q =
       let bounded : Bounded state 0 =
       rw (ap (λ (kept : Memory). kept .state) q)
       (bounded-byte (memory (reader .state) fields numbers places) (reader .spot) 10 0 (behind-bounded 1 (omega (arith, b .counted)))) in
@@ -94,7 +94,6 @@ module _ {text : List ℕ} {reader : Reader} {fields numbers places : List ℕ} 
         stateIs = ap (λ (kept : Memory). kept .state) (whole-is q);
         numbersAre = ap (λ (kept : Memory). kept .numbers) (whole-is q);
         placesAre = ap (λ (kept : Memory). kept .places) (whole-is q);
-        counted = number-small q;
       }
 
 -- a text in one piece

@@ -38,7 +38,6 @@ pub record AfterText (text : List ℕ) (state : State) (numbers places : List �
   pub stateIs : state ≡ keptBehind noNumbers noPlaces (eventsOf text) .state
   pub numbersAre : numbers ≡ keptBehind noNumbers noPlaces (eventsOf text) .numbers
   pub placesAre : places ≡ keptBehind noNumbers noPlaces (eventsOf text) .places
-  pub counted : state .number < 18446744073709551616
 
 -- What is promised by what the code keeps is what the text is read as, and the line of its fault just where it can't be read.
 pub record AnswerOfText : Type 0 where

@@ -26,7 +26,7 @@ module _ {state : State} {numbers old new : List ℕ} {answer : Answer} (e : End
     (a : Answered state numbers old answer new) where
   whole-kept : Whole old (keptText (state .line) state numbers) (endIn answer) new
   whole-kept =
-      whole old _ _ _ (omega (arith, answerFits (state .line) state numbers (after-roomy (e .is)) (e .is .counted), room)) (a .textIs)
+      whole old _ _ _ (omega (arith, answerFits (state .line) state numbers (after-roomy (e .is)) (e .counted), room)) (a .textIs)
 
   pub answers-text : AnswersText state numbers old answer new
   answers-text =

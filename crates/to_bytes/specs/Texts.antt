@@ -1,6 +1,6 @@
 -- What the program knows of the text on standard input when it has gone through it (SPECIFICATION 14). The proofs are in proofs/ReadLaws.antt.
 -- Assumes nothing.
-use Prim.Native.Nat.{ℕ}
+use Prim.Native.Nat.{ℕ, _<_}
 use mathlib.Core.Path.{_≡_}
 use mathlib.Core.List.{List}
 use Rattle.printing.specs.Appended.{Appended}
@@ -32,10 +32,12 @@ pub record After (state : State) (numbers places : List ℕ) : Type 0 where
   pub text : List ℕ
   pub is : AfterText text state numbers places
 
+-- and one whose lines can be counted in the machine's words
 pub record Ended (state : State) (numbers : List ℕ) : Type 0 where
   pub text : List ℕ
   pub places : List ℕ
   pub is : AfterText text state numbers places
+  pub counted : state .number < 18446744073709551616
 
 -- The answer is what that text is read as: which of both it is, and the whole of it.
 pub record AnswersText (state : State) (numbers old : List ℕ) (answer : Answer) (new : List ℕ) : Type 0 where

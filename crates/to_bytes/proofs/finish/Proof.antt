@@ -1,7 +1,7 @@
 -- `to_bytes::finish` meets its contract.
 -- Assumes nothing.
 use native.Mathlib.Omega.{arith}
-use Rattle.texts.proofs.TextLaws.{behind-sized, behind-bounded, behind-after}
+use Rattle.texts.proofs.TextLaws.{behind-sized, behind-bounded, behind-number, behind-after}
 use borrow.Author.Needs.{needs}
 use Rattle.to_bytes.proofs.finish.Statement.{statement}
 use Rattle.to_bytes.proofs.finish.Tie as tie
@@ -13,7 +13,7 @@ arg-count-requires : tie.Need-arg-count-requires
 arg-count-requires c κs = search needs
 
 write-answer-requires : tie.Need-write-answer-requires
-write-answer-requires c κs = record { text = c .before .before .before .before .before .before .before .before .before .before .before .before .before .before .before .before .before .pre .text; places = _; is = behind-after (c .before .before .before .before .before .before .before .before .before .before .before .before .before .before .before .before .before .pre .is) (c .before .before .before .before .before .before .before .before .before .before .take-byte .ensures .1) }
+write-answer-requires c κs = record { text = c .before .before .before .before .before .before .before .before .before .before .before .before .before .before .before .before .before .pre .text; places = _; is = behind-after (c .before .before .before .before .before .before .before .before .before .before .before .before .before .before .before .before .before .pre .is) (c .before .before .before .before .before .before .before .before .before .before .take-byte .ensures .1); counted = behind-number (c .before .before .before .before .before .before .before .before .before .before .before .before .before .before .before .before .before .pre .is) (c .before .before .before .before .before .before .before .before .before .before .take-byte .ensures .1) }
 
 same-length : tie.Need-same-length
 same-length c = search needs
