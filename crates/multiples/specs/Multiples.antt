@@ -1,0 +1,60 @@
+-- The least common multiple of numbers, and of a table's periods (SPECIFICATION 13.12; document 02, L10).
+-- Assumes nothing.
+use Prim.Native.Nat.{ℕ, _*_, _%_, _≤_, _<_, _∣_}
+use mathlib.Core.Path.{_≡_}
+use mathlib.Core.Bool.{Bool, true}
+use mathlib.Core.List.{List, [], _∷_, map}
+use lib.Dec.{eqb, leb}
+use lib.ListN.{length, getD}
+use Rattle.model.specs.Choice.{pick, both}
+use Rattle.model.specs.Search.{firstFrom}
+use Rattle.model.specs.Tables.{Task}
+use Rattle.multiples.specs.declared.Multiple.{Multiple}
+use Rattle.multiples.specs.declared.Multiple.the-variants.{Number, Over}
+
+-- does every number of the list divide w?
+unfoldable pub isMultiple : List ℕ → ℕ → Bool
+isMultiple [] w = true
+isMultiple (p ∷ ps) w = both (eqb (w % p) 0) (isMultiple ps w)
+
+-- every number of the list divides this one: the search need not go farther
+unfoldable pub productOf : List ℕ → ℕ
+productOf [] = 1
+productOf (p ∷ ps) = p * productOf ps
+
+-- the "least common multiple": the first number, from 1 on, that all of them divide
+unfoldable pub leastMultiple : List ℕ → ℕ
+leastMultiple ps = firstFrom (isMultiple ps) 1 (productOf ps)
+
+-- the same said without a search: each number of the list divides w
+abbrev pub AllDivide : List ℕ → ℕ → Type 0
+AllDivide ps w = (i : ℕ) → i < length ps → getD ps i 1 ∣ w
+
+-- m is a multiple, at least 1, and no greater than any other; and it divides every other
+pub record LeastMultiple (ps : List ℕ) (m : ℕ) : Type 0 where
+  pub positive : 1 ≤ m
+  pub multiple : AllDivide ps m
+  pub least : (w : ℕ) → 1 ≤ w → AllDivide ps w → m ≤ w
+  pub divides : (w : ℕ) → AllDivide ps w → m ∣ w
+
+-- no number of the list is 0
+abbrev pub AllPositive : List ℕ → Type 0
+AllPositive ps = (i : ℕ) → i < length ps → 1 ≤ getD ps i 1
+
+abbrev pub LeastMultipleRight : Type 0
+LeastMultipleRight = (ps : List ℕ) → AllPositive ps → LeastMultiple ps (leastMultiple ps)
+
+-- and there is only one
+abbrev pub NoSecondMultiple : Type 0
+NoSecondMultiple = (ps : List ℕ) (m w : ℕ) → LeastMultiple ps m → LeastMultiple ps w → m ≡ w
+
+-- "above 10^12 print "over"": 10^12 itself is a number
+abbrev pub shown : ℕ → Multiple
+shown m = pick (leb m 1000000000000) (Number m) Over
+
+abbrev pub periodOf : Task → ℕ
+periodOf t = t .period
+
+-- "the periods' least common multiple"
+abbrev pub hyperperiodOf : List Task → Multiple
+hyperperiodOf tasks = shown (leastMultiple (map periodOf tasks))

@@ -1,0 +1,2 @@
+pub mod Utilisation
+pub mod Bound
