@@ -5,6 +5,7 @@ pub mod FaultLaws
 pub mod MeaningLaws
 pub mod CheckLaws
 pub mod OrderLaws
+pub mod WalkLaws
 pub mod HeadLaws
 pub mod PlaceLaws
 pub mod ExampleLaws

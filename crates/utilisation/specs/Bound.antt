@@ -16,17 +16,17 @@ pub record Largest (n v : ℕ) : Type 0 where
   pub over : Passes n (v + 1) → ⊥
   pub largest : (w : ℕ) → Passes n w → w ≤ v
 
--- the same test, which fails where v passes
+-- the opposite of `Passes`, as a test
 abbrev pub isOver : ℕ → ℕ → Bool
 isOver n w = ltb (2 * (1000000 * n) ^ n) ((1000000 * n + w) ^ n)
 
--- "entry n": the number before the first, from 1 on, that is over. 1,000,001 is over for every n from 1 to 200.
+-- "entry n": the number before the first, from 1 on, that is over. 1,000,001 is over for every n.
 unfoldable pub boundOf : ℕ → ℕ
 boundOf n = firstFrom (isOver n) 1 1000001 - 1
 
--- what the search gives is what document 02 asks for, at each entry "from a table of 200 entries"
+-- what the search gives is what document 02 asks for, for any number of tasks
 abbrev pub BoundRight : Type 0
-BoundRight = (n : ℕ) → 1 ≤ n → n ≤ 200 → Largest n (boundOf n)
+BoundRight = (n : ℕ) → 1 ≤ n → Largest n (boundOf n)
 
 -- and nothing else is
 abbrev pub NoSecondBound : Type 0

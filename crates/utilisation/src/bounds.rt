@@ -3,7 +3,7 @@ ghost use mathlib.Core.Path.{_≡_};
 ghost use Prim.Native.Nat.{_≤_};
 ghost use Rattle.utilisation.specs.Bound.{boundOf};
 
-// In millionths. Entry n stands at n - 1. One computed test over the whole table proves every entry (proofs/Entries.antt).
+// In millionths: entry n stands at n - 1. Its rule is tested once over the whole table, where the check proves `bound`.
 const BOUNDS: [u32; 200] = [
     1000000,
     828427,
@@ -207,7 +207,7 @@ const BOUNDS: [u32; 200] = [
     694349,
 ];
 
-// The bound for n tasks: no version's table has more than 200.
+// Entry n. No version's table has more than 200 tasks.
 pub fn bound(n: usize) -> u32
     requires { ⌜ (1 ≤ n) × (n ≤ 200) ⌝ }
     ensures { λ r. ⌜ r ≡ boundOf n ⌝ }

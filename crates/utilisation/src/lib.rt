@@ -1,4 +1,4 @@
-// How much time a table's tasks ask for, and the bound below which any are schedulable (SPECIFICATION 13.12; document 02, L10).
+// How much time a table's tasks ask for, and the Liu and Layland bound that is printed beside it (SPECIFICATION 13.12; document 02, L10).
 ghost use mathlib.Core.Path.{_≡_};
 ghost use Prim.Native.Nat.{_≤_};
 ghost use Rattle.tables.specs.Layout.{tasksOf};
@@ -16,7 +16,7 @@ mod bounds;
 
 pub use bounds::bound;
 
-// "each task's share rounded up", in millionths. It does not fit 32 bits.
+// "each task's share rounded up", in millionths: it does not fit 32 bits.
 pub fn share(cost: u32, period: u32) -> u64
     requires { ⌜ 1 ≤ period ⌝ }
     ensures { λ r. ⌜ r ≡ shareOf cost period ⌝ }
@@ -24,7 +24,7 @@ pub fn share(cost: u32, period: u32) -> u64
     (1000000 * (cost as u64) + (period as u64 - 1)) / (period as u64)
 }
 
-// "and then summed": of a table that was accepted. Each field is read once, and nothing is stored.
+// "and then summed", for a table that was accepted.
 pub fn utilisation(table: &[u8]) -> u64
     requires { ⌜ TableRight (now table) ⌝ }
     ensures { λ r. ⌜ r ≡ utilisationOf (tasksOf (now (table .entry))) ⌝ }

@@ -1,0 +1,4 @@
+pub mod UtilisationLaws
+pub mod SumLaws
+pub mod TableLaws
+pub mod BoundLaws
