@@ -1,16 +1,19 @@
 -- The least common multiple of numbers, and of a table's periods (SPECIFICATION 13.12; document 02, L10).
 -- Assumes nothing.
-use Prim.Native.Nat.{ℕ, _*_, _%_, _≤_, _<_, _∣_}
+use Prim.Native.Nat.{ℕ, _*_, _/_, _%_, _≤_, _<_, _∣_}
 use mathlib.Core.Path.{_≡_}
 use mathlib.Core.Bool.{Bool, true}
-use mathlib.Core.List.{List, [], _∷_, map}
+use mathlib.Core.List.{List, [], _∷_, _++_, map}
 use lib.Dec.{eqb, leb}
 use lib.ListN.{length, getD}
 use Rattle.model.specs.Choice.{pick, both}
 use Rattle.model.specs.Search.{firstFrom}
 use Rattle.model.specs.Tables.{Task}
+use Rattle.tables.specs.Layout.{tasksOf}
+use Rattle.tables.specs.Meaning.{TableRight}
 use Rattle.multiples.specs.declared.Multiple.{Multiple}
 use Rattle.multiples.specs.declared.Multiple.the-variants.{Number, Over}
+use Rattle.multiples.specs.Divisors.{GreatestDivisor}
 
 -- does every number of the list divide w?
 unfoldable pub isMultiple : List ℕ → ℕ → Bool
@@ -48,6 +51,11 @@ LeastMultipleRight = (ps : List ℕ) → AllPositive ps → LeastMultiple ps (le
 abbrev pub NoSecondMultiple : Type 0
 NoSecondMultiple = (ps : List ℕ) (m w : ℕ) → LeastMultiple ps m → LeastMultiple ps w → m ≡ w
 
+-- one number more: its product with the multiple of those before, divided by their common divisor
+abbrev pub OneMore : Type 0
+OneMore =
+    (ps : List ℕ) (p m g : ℕ) → 1 ≤ p → LeastMultiple ps m → GreatestDivisor m p g → LeastMultiple (ps ++ (p ∷ [])) (m / g * p)
+
 -- "above 10^12 print "over"": 10^12 itself is a number
 abbrev pub shown : ℕ → Multiple
 shown m = pick (leb m 1000000000000) (Number m) Over
@@ -58,3 +66,7 @@ periodOf t = t .period
 -- "the periods' least common multiple"
 abbrev pub hyperperiodOf : List Task → Multiple
 hyperperiodOf tasks = shown (leastMultiple (map periodOf tasks))
+
+-- no period of an accepted table is 0
+abbrev pub TablePeriods : Type 0
+TablePeriods = (bytes : List ℕ) → TableRight bytes → AllPositive (map periodOf (tasksOf bytes))

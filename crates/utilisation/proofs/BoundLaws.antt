@@ -7,8 +7,7 @@ use native.Mathlib.Nat.{le-trans, lt-of-lt-of-le, lt-irrefl, mul-pos, mul-le-mul
 use mathlib.Core.Path.{_≡_, refl, sym, _∙_, ap, subst}
 use mathlib.Core.Bool.{Bool, true, false}
 use mathlib.Core.List.{List}
-use mathlib.Core.Logic.{inl, inr}
-use lib.Dec.{leb, ltb}
+use lib.Dec.{leb}
 use lib.ListN.{length, getD}
 use borrow.Author.Tests.{leb-true, ltb-true, ltb-false, lt-ltb}
 use Rattle.model.specs.Choice.{both}

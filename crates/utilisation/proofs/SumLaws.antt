@@ -2,15 +2,15 @@
 -- Assumes nothing.
 use Prim.Native.Nat.{ℕ, _+_, _*_, _≤_, _<_}
 use native.Mathlib.Omega.{arith}
-use mathlib.Core.Path.{_≡_, refl, sym, _∙_, ap}
+use mathlib.Core.Path.{_≡_, refl, _∙_, ap}
 use mathlib.Core.List.{List, [], _∷_}
 use Rattle.model.specs.Lists.{sumOf, tabulate}
-use Rattle.model.proofs.Lists.{tabulate-more, tabulate-none, sum-append}
+use Rattle.model.proofs.Lists.{tabulate-more, sum-append}
 use Rattle.equation.proofs.RoundingLaws.{at-most}
 use Rattle.tables.specs.declared.layout.Layout.{Layout}
 use Rattle.tables.specs.Layout.{layoutOf, taskCount, taskAt, tasksOf, periodIn, costIn}
 use Rattle.tables.specs.Meaning.{TableRight}
-use Rattle.tables.proofs.WalkLaws.{Walking, walking-first, walked, period-is, cost-is, period-within, cost-within, walking-more}
+use Rattle.tables.proofs.WalkLaws.{Walking, walking-first, walked, period-within, cost-within, walking-more}
 use Rattle.utilisation.specs.Utilisation.{shareOf, taskShare, utilisationOf}
 
 -- the sum over the first i tasks

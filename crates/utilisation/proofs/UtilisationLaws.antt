@@ -8,7 +8,10 @@ use lib.ListN.{length}
 use Rattle.model.specs.Lists.{sumOf}
 use Rattle.model.specs.Tables.{Task}
 use Rattle.equation.proofs.RoundingLaws.{enough}
-use Rattle.utilisation.specs.Utilisation.{shareOf, utilisationOf, periodsProduct, exactOver, PeriodsPositive, UtilisationRight}
+use Rattle.tables.specs.Fields.{taskCountField, periodField}
+use Rattle.tables.specs.Layout.{taskCount}
+use Rattle.tables.proofs.LayoutLaws.{task-is, tasks-count}
+use Rattle.utilisation.specs.Utilisation.{shareOf, utilisationOf, periodsProduct, exactOver, PeriodsPositive, UtilisationRight, TableTasks}
 
 -- one share is less than its exact value plus one
 share-below : (cost period : ℕ) → 1 ≤ period → suc (shareOf cost period * period) ≤ 1000000 * cost + period
@@ -60,3 +63,11 @@ below (t ∷ ts) h some = one-below t ts h (not-above ts (later-positive t ts h)
 
 pub utilisationRight : UtilisationRight
 utilisationRight = record { atLeast = at-least; below = below }
+
+pub tableTasks : TableTasks
+tableTasks bytes right = (
+  λ i l.
+      let inside : i < taskCount bytes = omega (arith, tasks-count bytes) in
+      rw (task-is bytes i inside) (right .records i inside periodField .low),
+  omega (arith, tasks-count bytes, right .head .counts taskCountField .low),
+)
