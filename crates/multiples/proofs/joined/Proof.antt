@@ -10,13 +10,19 @@ gcd-requires : tie.Need-gcd-requires
 gcd-requires c κs = search needs
 
 div-result : tie.Need-div-result
-div-result c = omega (arith, divisor-positive _ _ _ (c .before .pre .0 .0) (c .before .pre .1 .0) (c .gcd .ensures))
+div-result c =
+    let start = c .before in
+    omega (arith, divisor-positive (start .args .before) (start .args .period) (c .gcd .result) (start .pre .0 .0) (start .pre .1 .0) (c .gcd .ensures))
 
 mul-result : tie.Need-mul-result
-mul-result c = omega (arith, joined-small (c .before .args .before) (c .before .args .period) (c .gcd .result) (c .before .pre .0 .1) (c .before .pre .1 .1))
+mul-result c =
+    let start = c .before in
+    omega (arith, joined-small (start .args .before) (start .args .period) (c .gcd .result) (start .pre .0 .1) (start .pre .1 .1))
 
 returns : tie.Need-returns
-returns c = joined-is _ _ _ (c .before .pre .0 .0) (c .before .pre .1 .0) (c .gcd .ensures)
+returns c =
+    let start = c .before in
+    joined-is (start .args .before) (start .args .period) (c .gcd .result) (start .pre .0 .0) (start .pre .1 .0) (c .gcd .ensures)
 
 pub joined-spec : {M : Type 1} → statement M
 joined-spec = tie.close (tie.spec gcd-requires div-result mul-result returns)
