@@ -14,7 +14,7 @@ use Rattle.tables.specs.Fields.{periodField}
 use Rattle.tables.specs.Meaning.{TableRight}
 use Rattle.tables.proofs.WalkLaws.{Walking, walking-first, walked, period-within, walking-more}
 use Rattle.multiples.specs.declared.Multiple.the-variants.{Number, Over}
-use Rattle.multiples.specs.Multiples.{leastMultiple, AllDivide, LeastMultiple, AllPositive, shown, periodOf, hyperperiodOf, TablePeriods}
+use Rattle.multiples.specs.Multiples.{leastMultiple, AllDivide, IsLeastMultiple, AllPositive, shown, periodOf, hyperperiodOf, TablePeriods}
 use Rattle.multiples.proofs.MultipleLaws.{leastMultipleRight, is-found, least-none, pair-right, least-more}
 
 -- the periods of the first i tasks
@@ -47,7 +47,7 @@ module _ (bytes : List ℕ) where
       subst (λ (p : ℕ). p ∣ w) (period-at n k there ∙ sym (period-at i k l)) (all k there)
 
   -- so that the multiple of all is no less than that of the first ones
-  first-less : TableRight bytes → (i m : ℕ) → i ≤ taskCount bytes → LeastMultiple (periods bytes i) m → m ≤ leastMultiple (map periodOf (tasksOf bytes))
+  first-less : TableRight bytes → (i m : ℕ) → i ≤ taskCount bytes → IsLeastMultiple (periods bytes i) m → m ≤ leastMultiple (map periodOf (tasksOf bytes))
   first-less right i m within least =
       let all = leastMultipleRight (periods bytes (taskCount bytes)) (all-positive right) in
       rw periods-are
@@ -67,7 +67,7 @@ shown-number m h = rw (le-leb m 1000000000000 h)
 -- before the period of task i is joined to those before it
 pub record Joining (bytes : List ℕ) (layout : Layout) (n i at common : ℕ) : Type 0 where
   pub walk : Walking bytes layout n i at
-  pub least : LeastMultiple (periods bytes i) common
+  pub least : IsLeastMultiple (periods bytes i) common
   pub small : common ≤ 1000000000000
 
 pub joining-first : {bytes : List ℕ} {layout : Layout} {n : ℕ} → TableRight bytes → layout ≡ layoutOf bytes → n ≡ taskCount bytes →
@@ -90,7 +90,7 @@ module _ {bytes : List ℕ} {layout : Layout} {n i at common : ℕ} (j : Joining
       shown-number common (j .small) ∙ ap shown same
 
   module _ (h : i < n) {period next : ℕ} (p : period ≡ periodIn bytes i) (e : next ≡ leastMultiple (common ∷ (period ∷ []))) where
-    next-least : LeastMultiple (periods bytes (i + 1)) next
+    next-least : IsLeastMultiple (periods bytes (i + 1)) next
     next-least =
         rw (tabulate-more (periodIn bytes) i, e, p)
         (least-more (periods bytes i) (periodIn bytes i) common (leastMultiple (common ∷ (periodIn bytes i ∷ []))) (j .least)

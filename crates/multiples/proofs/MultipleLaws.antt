@@ -16,7 +16,7 @@ use Rattle.model.proofs.Tests.{clash, both-true, both-pass}
 use Rattle.model.proofs.Search.{Found, found, missed}
 use Rattle.model.proofs.Append.{each-append}
 use Rattle.multiples.specs.Divisors.{GreatestDivisor}
-use Rattle.multiples.specs.Multiples.{isMultiple, productOf, leastMultiple, AllDivide, LeastMultiple, AllPositive, LeastMultipleRight, NoSecondMultiple, OneMore}
+use Rattle.multiples.specs.Multiples.{isMultiple, productOf, leastMultiple, AllDivide, IsLeastMultiple, AllPositive, LeastMultipleRight, NoSecondMultiple, OneMore}
 
 -- the numbers of a list one after the other
 all-first : (p : ℕ) (ps : List ℕ) (w : ℕ) → AllDivide (p ∷ ps) w → p ∣ w
@@ -111,18 +111,18 @@ noSecondMultiple ps m w a b =
     omega (arith, a .least w (b .positive) (b .multiple), b .least m (a .positive) (a .multiple))
 
 -- where there is a least multiple, no number is 0, and the search finds it
-pub is-found : (ps : List ℕ) (m : ℕ) → LeastMultiple ps m → m ≡ leastMultiple ps
+pub is-found : (ps : List ℕ) (m : ℕ) → IsLeastMultiple ps m → m ≡ leastMultiple ps
 is-found ps m least =
     noSecondMultiple ps m (leastMultiple ps) least
     (leastMultipleRight ps (λ i l. pos-of-dvd-of-pos (least .multiple i l) (least .positive)))
 
 -- of no numbers it is 1
-pub least-none : LeastMultiple [] 1
+pub least-none : IsLeastMultiple [] 1
 least-none =
     record { positive = omega arith; multiple = all-none 1; least = λ w one all. one; divides = λ w all. subst (λ (n : ℕ). 1 ∣ n) (omega arith) (dvd-mul-right 1 w) }
 
 -- two numbers: their product divided by their common divisor
-pub pair-right : (a b : ℕ) → 1 ≤ a → 1 ≤ b → LeastMultiple (a ∷ (b ∷ [])) (leastMultiple (a ∷ (b ∷ [])))
+pub pair-right : (a b : ℕ) → 1 ≤ a → 1 ≤ b → IsLeastMultiple (a ∷ (b ∷ [])) (leastMultiple (a ∷ (b ∷ [])))
 pair-right a b one two = leastMultipleRight (a ∷ (b ∷ [])) positive
   where
     positive : AllPositive (a ∷ (b ∷ []))
@@ -145,7 +145,7 @@ module _ (a b g : ℕ) (one : 1 ≤ a) (two : 1 ≤ b) (gcd : GreatestDivisor a 
       product : (x y : ℕ) → g * x ≡ a → g * y ≡ b → a * y ≡ x * b
       product x y p q = rw (sym p, sym q) (omega arith)
 
-  module _ (l : ℕ) (least : LeastMultiple (a ∷ (b ∷ [])) l) where
+  module _ (l : ℕ) (least : IsLeastMultiple (a ∷ (b ∷ [])) l) where
     -- the product divided by the least multiple is a common divisor
     abbrev rest : ℕ
     rest = a * b / l
@@ -198,7 +198,7 @@ module _ (ps : List ℕ) (p w : ℕ) where
   all-after before last = each-append 1 (λ (n : ℕ). n ∣ w) ps (p ∷ []) before (all-more p [] w last (all-none w))
 
 -- the multiple of those before and it is that of them all
-pub least-more : (ps : List ℕ) (p m l : ℕ) → LeastMultiple ps m → LeastMultiple (m ∷ (p ∷ [])) l → LeastMultiple (ps ++ (p ∷ [])) l
+pub least-more : (ps : List ℕ) (p m l : ℕ) → IsLeastMultiple ps m → IsLeastMultiple (m ∷ (p ∷ [])) l → IsLeastMultiple (ps ++ (p ∷ [])) l
 least-more ps p m l before both =
     record {
       positive = both .positive;
@@ -212,5 +212,5 @@ least-more ps p m l before both =
 
 pub oneMore : OneMore
 oneMore ps p m g one before gcd =
-    subst (λ (l : ℕ). LeastMultiple (ps ++ (p ∷ [])) l) (sym (joined-is m p g (before .positive) one gcd))
+    subst (λ (l : ℕ). IsLeastMultiple (ps ++ (p ∷ [])) l) (sym (joined-is m p g (before .positive) one gcd))
     (least-more ps p m (leastMultiple (m ∷ (p ∷ []))) before (pair-right m p (before .positive) one))

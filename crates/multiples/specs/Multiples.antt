@@ -25,16 +25,16 @@ unfoldable pub productOf : List ℕ → ℕ
 productOf [] = 1
 productOf (p ∷ ps) = p * productOf ps
 
--- the "least common multiple": the first number, from 1 on, that all of them divide
+-- the "least common multiple" by a search: the first number, from 1 on, that all of them divide
 unfoldable pub leastMultiple : List ℕ → ℕ
 leastMultiple ps = firstFrom (isMultiple ps) 1 (productOf ps)
 
--- the same said without a search: each number of the list divides w
+-- The same said without a search. Each number of the list divides w:
 abbrev pub AllDivide : List ℕ → ℕ → Type 0
 AllDivide ps w = (i : ℕ) → i < length ps → getD ps i 1 ∣ w
 
--- m is a multiple, at least 1, and no greater than any other; and it divides every other
-pub record LeastMultiple (ps : List ℕ) (m : ℕ) : Type 0 where
+-- m is the "least common multiple": at least 1, and no greater than any other of at least 1. It divides every other.
+pub record IsLeastMultiple (ps : List ℕ) (m : ℕ) : Type 0 where
   pub positive : 1 ≤ m
   pub multiple : AllDivide ps m
   pub least : (w : ℕ) → 1 ≤ w → AllDivide ps w → m ≤ w
@@ -44,17 +44,18 @@ pub record LeastMultiple (ps : List ℕ) (m : ℕ) : Type 0 where
 abbrev pub AllPositive : List ℕ → Type 0
 AllPositive ps = (i : ℕ) → i < length ps → 1 ≤ getD ps i 1
 
+-- what the search finds, for any numbers
 abbrev pub LeastMultipleRight : Type 0
-LeastMultipleRight = (ps : List ℕ) → AllPositive ps → LeastMultiple ps (leastMultiple ps)
+LeastMultipleRight = (ps : List ℕ) → AllPositive ps → IsLeastMultiple ps (leastMultiple ps)
 
 -- and there is only one
 abbrev pub NoSecondMultiple : Type 0
-NoSecondMultiple = (ps : List ℕ) (m w : ℕ) → LeastMultiple ps m → LeastMultiple ps w → m ≡ w
+NoSecondMultiple = (ps : List ℕ) (m w : ℕ) → IsLeastMultiple ps m → IsLeastMultiple ps w → m ≡ w
 
 -- one number more: its product with the multiple of those before, divided by their common divisor
 abbrev pub OneMore : Type 0
 OneMore =
-    (ps : List ℕ) (p m g : ℕ) → 1 ≤ p → LeastMultiple ps m → GreatestDivisor m p g → LeastMultiple (ps ++ (p ∷ [])) (m / g * p)
+    (ps : List ℕ) (p m g : ℕ) → 1 ≤ p → IsLeastMultiple ps m → GreatestDivisor m p g → IsLeastMultiple (ps ++ (p ∷ [])) (m / g * p)
 
 -- "above 10^12 print "over"": 10^12 itself is a number
 abbrev pub shown : ℕ → Multiple

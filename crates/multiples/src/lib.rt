@@ -1,4 +1,4 @@
-// The least common multiple of a table's periods: after so many ticks they begin together again (SPECIFICATION 13.12; document 02, L10).
+// The least common multiple of a table's periods (SPECIFICATION 13.12; document 02, L10).
 ghost use mathlib.Core.Path.{_≡_};
 ghost use mathlib.Core.List.{[], _∷_};
 ghost use Prim.Native.Nat.{_≤_};
@@ -28,7 +28,7 @@ pub fn gcd(a: u64, b: u64) -> u64
     if b == 0 { a } else { gcd(b, a % b) }
 }
 
-// The least common multiple of two: of the periods before, and of one more. The divide comes first, so that nothing wraps.
+// The least common multiple of two: that of the periods before, and one period more. The divide comes first, so that nothing wraps.
 fn joined(before: u64, period: u32) -> u64
     requires { ⌜ (1 ≤ before) × (before ≤ 1000000000000) ⌝ }
     requires { ⌜ (1 ≤ period) × (period ≤ 1000000) ⌝ }

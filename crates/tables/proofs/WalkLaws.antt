@@ -6,7 +6,7 @@ use mathlib.Core.Path.{_≡_, _∙_, ap}
 use mathlib.Core.List.{List}
 use lib.ListN.{length}
 use Rattle.tables.specs.declared.layout.Layout.{Layout}
-use Rattle.tables.specs.Fields.{taskCountField, periodField, costField}
+use Rattle.tables.specs.Fields.{taskCountField, periodField}
 use Rattle.tables.specs.Layout.{wordAt, layoutOf, taskCount, recordStart, periodIn, costIn}
 use Rattle.tables.specs.Meaning.{Within, TableRight}
 use Rattle.tables.proofs.LayoutLaws.{layout-sound, next-start, record-inside, start-small}
@@ -54,7 +54,7 @@ module _ {bytes : List ℕ} {layout : Layout} {n i at : ℕ} (w : Walking bytes 
         start-small (layoutOf bytes) sound {n = taskCount bytes} (omega (arith, w .right .head .counts taskCountField .high, sound .few)),
       )
 
-  -- its period and its cost, where they are read, and their ranges
+  -- its period and its cost, where they are read, and the period's range
   pub period-is : {period : ℕ} → period ≡ wordAt bytes (at + 1) → period ≡ periodIn bytes i
   period-is e = e ∙ ap (λ (start : ℕ). wordAt bytes (start + 1)) (w .here)
 
@@ -63,9 +63,6 @@ module _ {bytes : List ℕ} {layout : Layout} {n i at : ℕ} (w : Walking bytes 
 
   pub period-within : Within 1 1000000 (periodIn bytes i)
   period-within = w .right .records i inside periodField
-
-  pub cost-within : Within 1 1000000 (costIn bytes i)
-  cost-within = w .right .records i inside costField
 
   pub walking-more : Walking bytes layout n (i + 1) (at + layout .size)
   walking-more =

@@ -67,7 +67,7 @@ search-finds n one =
           absurd (clash (isOver n 1000001) (lt-ltb _ _ (last-over n one)) none)
     ]
 
--- no tasks' number is 0, and 0 passes
+-- the search begins at 1: 0 passes
 zero-passes : (n : ℕ) → Passes n 0
 zero-passes n = rw (add-zero (1000000 * n)) (omega arith)
 
@@ -88,7 +88,7 @@ boundRight n one =
     largest n (first - 1) (before-passes n first f)
     (subst (λ (w : ℕ). 2 * (1000000 * n) ^ n < (1000000 * n + w) ^ n) e (ltb-true _ _ (f .passes)))
 
--- the test of a table's entry, for the place k, which is that of k + 1 tasks: it passes, and the next number doesn't
+-- the test of a table's entry: that at place k, which is for k + 1 tasks, passes, and the next number doesn't
 abbrev passed : ℕ → ℕ → Bool
 passed k v = leb ((1000000 * suc k + v) ^ suc k) (2 * (1000000 * suc k) ^ suc k)
 

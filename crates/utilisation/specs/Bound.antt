@@ -20,7 +20,7 @@ pub record Largest (n v : ℕ) : Type 0 where
 abbrev pub isOver : ℕ → ℕ → Bool
 isOver n w = ltb (2 * (1000000 * n) ^ n) ((1000000 * n + w) ^ n)
 
--- "entry n": the number before the first, from 1 on, that is over. 1,000,001 is over for every n.
+-- "entry n": the number before the first, from 1 on, that is over. 1,000,001 is over for every n from 1 on.
 unfoldable pub boundOf : ℕ → ℕ
 boundOf n = firstFrom (isOver n) 1 1000001 - 1
 

@@ -4,7 +4,7 @@ use Prim.Native.Nat.{_-_}
 use native.Mathlib.Omega.{arith}
 use borrow.Author.Needs.{needs}
 use Rattle.tables.proofs.WalkLaws.{record-there, next-near, period-is, cost-is, period-within}
-use Rattle.utilisation.proofs.SumLaws.{Summing, summing-first, summing-all, share-small, summing-more}
+use Rattle.utilisation.proofs.SumLaws.{Summing, summing-first, summing-all, next-fits, summing-more}
 use Rattle.utilisation.proofs.utilisation.Statement.{statement}
 use Rattle.utilisation.proofs.utilisation.Tie as tie
 
@@ -45,7 +45,7 @@ share-requires : tie.Need-share-requires Inv-loop μ-loop
 share-requires c κs = omega (arith, period-is (c .before .before .before .loop .inv .walk) (c .before .before .loop-test .taken) (c .word2 .ensures), period-within (c .before .before .before .loop .inv .walk) (c .before .before .loop-test .taken) .low)
 
 add-sum : tie.Need-add-sum Inv-loop μ-loop
-add-sum c = omega (arith, c .before .before .before .before .loop .inv .small, share-small (c .before .before .before .before .loop .inv) (c .before .before .before .loop-test .taken) (cost-is (c .before .before .before .before .loop .inv .walk) (c .before .before .before .loop-test .taken) (c .before .before .word .ensures)) (period-is (c .before .before .before .before .loop .inv .walk) (c .before .before .before .loop-test .taken) (c .before .word2 .ensures)) (c .share .ensures), c .before .before .before .loop-test .taken, c .before .before .before .before .before .count .ensures .1)
+add-sum c = omega (arith, next-fits (c .before .before .before .before .loop .inv) (c .before .before .before .loop-test .taken) (cost-is (c .before .before .before .before .loop .inv .walk) (c .before .before .before .loop-test .taken) (c .before .before .word .ensures)) (period-is (c .before .before .before .before .loop .inv .walk) (c .before .before .before .loop-test .taken) (c .before .word2 .ensures)) (c .share .ensures))
 
 add-at : tie.Need-add-at Inv-loop μ-loop
 add-at c = omega (arith, next-near (c .before .before .before .before .before .loop .inv .walk) (c .before .before .before .before .loop-test .taken))
