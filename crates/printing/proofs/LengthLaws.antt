@@ -39,6 +39,17 @@ few-digits number count one small =
           (found (isHeld number) 1 20 (omega arith) (omega arith) .first count one (omega arith)))
     ]
 
+-- and never more than twenty
+pub twenty-digits : (number : ℕ) → digitCount number ≤ 20
+unfolding decimalOf
+twenty-digits number =
+    let fewest = firstFrom (isHeld number) 1 20 in
+    let e : digitCount number ≡ fewest = digits-long 10 fewest number in
+    elim (decLe fewest 20) [
+      | yes h ↦ omega (arith, e)
+      | no h ↦ absurd (omega (arith, h, found (isHeld number) 1 20 (omega arith) (omega (arith, h)) .high))
+    ]
+
 pub seven-digits : (number : ℕ) → number ≤ 1000000 → digitCount number ≤ 7
 seven-digits number h =
     let value : 10 ^ 7 ≡ 10000000 = refl in few-digits number 7 (omega arith) (omega (arith, value))

@@ -21,7 +21,7 @@ use tables::VERSION_AT;
 mod pieces;
 
 pub use pieces::append;
-use pieces::append_number;
+pub use pieces::append_number;
 pub use pieces::append_with_number;
 
 // Bytes enough for the text of any table, and for the longest no more than enough: `longest` of specs/Longest.antt.

@@ -1,0 +1,9 @@
+pub mod CuttingLaws
+pub mod CutLaws
+pub mod CountLaws
+pub mod DueLaws
+pub mod ClosingLaws
+pub mod StreamLaws
+pub mod SafeLaws
+pub mod LengthLaws
+pub mod PiecesLaws

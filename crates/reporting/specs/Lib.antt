@@ -1,0 +1,4 @@
+pub mod Cutting
+pub mod Report
+pub mod Streaming
+pub mod Longest
