@@ -4543,9 +4543,10 @@ def refused_tables():
         yield Draft(listed(*FIFTH), listed_rows(row)).data()
 
 
-# What the first bytes of a piece that is longer than every table can deserve: 2, 3 and 4.
-LONG_HEADS = [(0, 1, 0), (4, 1, 0), (1, 0, 0), (2, 33, 0), (3, 201, 65), (1, 32, 65), (1, 32, 64),
-              (3, 200, 64), (3, 1, 0)]
+# Version, n and m: what the first bytes of a piece that is longer than every table can deserve is 2,
+# 3 at 3, 3 at 4 and 4, as the first four of these do.
+LONG_HEADS = [(0, 1, 0), (2, 33, 0), (1, 32, 65), (3, 1, 0), (4, 1, 0), (1, 0, 0), (3, 201, 65),
+              (1, 32, 64), (3, 200, 64)]
 LONG_LENGTHS = (4590, 4591, 4595, 8192, 9179, 40000, 65535)
 
 
@@ -4648,7 +4649,7 @@ def made_reports():
                      for semaphore in range(1, 17)], 3).data()
     yield "longest", longest + term[0] + longest
     for length in LONG_LENGTHS:
-        for head in LONG_HEADS if length < 5000 else LONG_HEADS[::3] + LONG_HEADS[-1:]:
+        for head in LONG_HEADS if length < 5000 else LONG_HEADS[:4]:
             piece = long_piece(generator, length, *head)
             yield "long-%d-%d-%d-%d" % (length, *head), piece + term[0]
     yield "long-twice", long_piece(generator, 65535, 1, 1, 0) * 2 + term[1]
