@@ -7,9 +7,11 @@ runs tick by tick. The engine of document 02, L1, is played from event to event,
 knows nothing of the equation. Sentences in double quotation marks are document 01's,
 or L1's where the engine is spoken of, L3's where the places of refusals are, L4's
 where version 2 or delays are, L5's where the starts are, L6's where tasks that share a
-priority are, L7's where claims are, L8's where deadlines past the period are, and L9's where
-version 3 is. The text form of a table, whose rules are in docs/SPECIFICATION.md, is split into
-lines and each line into words, where the library goes through it byte by byte.
+priority are, L7's where claims are, L8's where deadlines past the period are, L9's where
+version 3 is, and L10's where the report is. The text form of a table, whose rules are in
+docs/SPECIFICATION.md, is split into lines and each line into words, where the library goes through
+it byte by byte. For a report it has all bytes at once, and knows neither Euclid's rule nor a stored
+list of bounds.
 
 Needs Python 3.7 or later and nothing else.
 """
@@ -18,7 +20,9 @@ import argparse
 import collections
 import enum
 import fractions
+import functools
 import itertools
+import math
 import os
 import re
 import sys
@@ -852,6 +856,109 @@ def fields_of_text(text):
 def text_line(text, place):
     line, name = fields_of_text(text)[place]
     return "no line: %s" % name if line is None else "line %d: %s" % (line, name)
+
+
+# ---------------------------------------------------------------------------
+# A term's report
+# ---------------------------------------------------------------------------
+
+MILLION = 1000000
+GREATEST_HYPERPERIOD = 10 ** 12
+
+
+def split_tables(data):
+    """The bytes of each table, and whether something behind the last one closes the report."""
+    # "stepping by each stated length; a stated length below 5 or past the end, or one to four bytes
+    # left over, closes the report, uncounted"
+    tables, at = [], 0
+    while len(data) - at >= HEADER_BYTES:
+        stated = big_endian(data[at + 1:at + 3])
+        if not HEADER_BYTES <= stated <= len(data) - at:
+            break
+        tables.append(data[at:at + stated])
+        at += stated
+    return tables, at < len(data)
+
+
+def utilisation_of(tasks):
+    # "utilisation in millionths, each task's share rounded up and then summed"
+    return sum(math.ceil(fractions.Fraction(MILLION * task.cost, task.period)) for task in tasks)
+
+
+@functools.lru_cache(None)
+def bound_of(count):
+    # "entry n is the largest v with (1,000,000n + v)^n at most 2(1,000,000n)^n": the search goes on
+    # between one that is small enough and one that is not, until they are neighbours.
+    whole = MILLION * count
+    fits, does_not = 0, whole + 1
+    while does_not - fits > 1:
+        tried = (fits + does_not) // 2
+        if (whole + tried) ** count <= 2 * whole ** count:
+            fits = tried
+        else:
+            does_not = tried
+    return fits
+
+
+@functools.lru_cache(None)
+def prime_powers(number):
+    """How often each prime divides the number."""
+    powers, prime = collections.Counter(), 2
+    while prime * prime <= number:
+        while number % prime == 0:
+            powers[prime] += 1
+            number //= prime
+        prime += 1
+    if number > 1:
+        powers[number] += 1
+    return powers
+
+
+def hyperperiod_of(tasks):
+    # "the periods' least common multiple": it has each prime as often as the period does that has
+    # it most.
+    most = collections.Counter()
+    for task in tasks:
+        most |= prime_powers(task.period)
+    multiple = 1
+    for prime, times in most.items():
+        multiple *= prime ** times
+    return multiple
+
+
+def hyperperiod_word(tasks):
+    # "above 10^12 print "over""
+    hyperperiod = hyperperiod_of(tasks)
+    return "over" if hyperperiod > GREATEST_HYPERPERIOD else str(hyperperiod)
+
+
+@functools.lru_cache(None)
+def reported(data):
+    """Of one table: the word by which it is counted, and the rest of its line."""
+    try:
+        tasks, rows = read_bytes(data)
+    except Refused as refusal:
+        return "refused", "%d at %d" % (refusal.number, refusal.place)
+    word = verdict_line(responses_of(tasks, rows)).split()[0]
+    return word, "utilisation %d bound %d hyperperiod %s" % (
+        utilisation_of(tasks), bound_of(len(tasks)), hyperperiod_word(tasks))
+
+
+REPORT_WORDS = ("schedulable", "late", "refused")
+
+
+def report_text(data):
+    """What is printed for a whole file."""
+    tables, broken = split_tables(data)
+    said = [reported(table) for table in tables]
+    lines = ["%d %s %s" % (number, *each) for number, each in enumerate(said)]
+    # "Report how many were schedulable, late and refused".
+    counts = collections.Counter(word for word, _ in said)
+    lines.append(" ".join("%s %d" % (word, counts[word]) for word in REPORT_WORDS))
+    if broken:
+        # "closes the report, uncounted, with a line "broken""
+        lines.append("broken")
+    return lines_text(lines)
 
 
 # ---------------------------------------------------------------------------
@@ -4353,6 +4460,223 @@ def claimed_text(number, claimed):
 
 
 # ---------------------------------------------------------------------------
+# Made files for the report
+# ---------------------------------------------------------------------------
+
+# The request's own example: the fifth table; a late one; three primes, whose product is above
+# 10^12; the fifth table with a deadline above its period; and two bytes more.
+PRIMES = (999961, 999979, 999983)
+TERM_TEXT = """0 schedulable utilisation 883334 bound 779763 hyperperiod 60
+1 late utilisation 1000001 bound 828427 hyperperiod 1000000
+2 schedulable utilisation 6 bound 779763 hyperperiod over
+3 refused 5 at 31
+schedulable 2 late 1 refused 1
+"""
+
+
+def table_of(*entries, version=1):
+    return Draft(listed(*entries), version=version).data()
+
+
+def light_table(periods, version=3):
+    """Each task is one tick long."""
+    return table_of(*((period, 1, period) for period in periods), version=version)
+
+
+def term_tables():
+    refused = Draft(listed(*FIFTH))
+    refused.change_task(1, deadline=7)
+    return [table_of(*FIFTH), table_of((1, 1, 1), (MILLION, 1, MILLION)),
+            light_table(PRIMES, version=1), refused.data()]
+
+
+# Periods, and the hyperperiod that is printed. 10^12 is 2^12 * 5^12, and 5^12 is above every
+# period: so no table has it. What comes next to it has: 10^12 - 1 = 27 * 7 * 11 * 13 * 37 * 101 *
+# 9901, and 10^12 + 4 = 4 * 17 * 149 * 197 * 501001.
+HYPERPERIODS = [
+    ((1,), "1"), ((MILLION,), "1000000"), ((4, 6, 10), "60"), ((7, 7, 7), "7"),
+    ((2, 4, 8, 16, 32), "32"), ((6, 10, 15), "30"), ((12, 18), "36"),
+    # Euclid's rule has many steps for neighbours in Fibonacci's sequence.
+    ((832040, 514229), "427859097160"), ((514229, 832040), "427859097160"),
+    ((27027, 3737, 9901), "999999999999"), ((9901, 27027, 3737, 1), "999999999999"),
+    ((501001, 10132, 197), "over"), ((197, 501001, 10132), "over"),
+    ((MILLION, 999999), "999999000000"), ((999999, MILLION, 999999, 3), "999999000000"),
+    ((MILLION, 500000, 999999), "999999000000"), ((MILLION, 999999, 17), "over"),
+    # The product is far above, the least common multiple is not.
+    ((MILLION,) * 200, "1000000"), ((720720,) * 100 + (360360,) * 100, "720720"),
+    # These are above 2^64, and what is left of them in 64 bits is not above 10^12.
+    ((403477, 815343, 833831, 870061), "over"), ((145901, 17965, 439469, 352313), "over"),
+    ((753373, 915562, 832741, 473797), "over"), (PRIMES, "over"),
+    (tuple(range(999801, 1000001)), "over"),
+]
+
+# Shares are rounded up one by one; the last two sums are above 2^32 and near 2^48.
+UTILISATIONS = [
+    ([(3, 1, 3)], 333334), ([(3, 1, 3)] * 3, 1000002), ([(7, 7, 7)], 1000000),
+    ([(7, 3, 7), (11, 5, 11)], 428572 + 454546), ([(MILLION, 1, MILLION)], 1),
+    ([(999999, 1, 999999)], 2), ([(999999, 999998, 999999)], 999999),
+    ([(1, MILLION, 1)], 10 ** 12), ([(1, MILLION, 1)] * 200, 2 * 10 ** 14),
+]
+
+
+def late_table(count):
+    """So many tasks, none of which can be in time."""
+    return table_of(*[(count + 1, 2, 1)] * count, version=3)
+
+
+def refused_tables():
+    """One for each refusal but 1, which no table of a report can get."""
+    fifth = table_of(*FIFTH)
+    for version in (0, 4, 9, 255):
+        yield bytes([version]) + fifth[1:]
+    for counts in ((0, 0), (33, 0), (3, 65), (255, 255)):
+        yield with_stated_length(fifth[:3] + bytes(counts) + fifth[5:])
+    for other in (fifth[:-1], fifth + bytes(1), fifth[:5], fifth + fifth):
+        yield with_stated_length(other)
+    yield bytes([3]) + fifth[1:]
+    for change in ({"period": 0}, {"cost": MILLION + 1}, {"deadline": 7}, {"latest": MILLION + 1},
+                   {"priority": 0}, {"priority": 4}):
+        draft = Draft(listed(*FIFTH))
+        draft.change_task(1, **change)
+        yield draft.data()
+    for row in ((3, 1, 1), (0, 17, 1), (0, 1, 2)):
+        yield Draft(listed(*FIFTH), listed_rows(row)).data()
+
+
+# Version, n and m: what the first bytes of a piece that is longer than every table can deserve is 2,
+# 3 at 3, 3 at 4 and 4, as the first four of these do.
+LONG_HEADS = [(0, 1, 0), (2, 33, 0), (1, 32, 65), (3, 1, 0), (4, 1, 0), (1, 0, 0), (3, 201, 65),
+              (1, 32, 64), (3, 200, 64)]
+LONG_LENGTHS = (4590, 4591, 4595, 8192, 9179, 40000, 65535)
+
+
+def long_piece(generator, length, version, task_count, row_count):
+    """Whatever stands behind its head: a whole table would be refused there, too."""
+    rest = generator.bytes(97) * (length // 97 + 1)
+    return with_stated_length(bytes([version, 0, 0, task_count, row_count]) + rest[:length - 5])
+
+
+def stated(length, count, version=1):
+    """So many bytes of a table that states this length."""
+    whole = bytes([version]) + length.to_bytes(2, "big") + bytes([1, 0]) + bytes(max(0, count - 5))
+    return whole[:count]
+
+
+def broken_ends():
+    """Each by its name: what closes a report."""
+    fifth = table_of(*FIFTH)
+    for length in range(HEADER_BYTES):
+        yield "states-%d" % length, stated(length, 5)
+        # What stands behind it is not looked at.
+        yield "states-%d-and-more" % length, stated(length, 22) + fifth
+    for length, count in ((6, 5), (65535, 5), (56, 55), (4589, 4588), (4590, 4589), (4591, 4590),
+                          (65535, 65534), (65535, 5000), (256, 255), (65280, 300)):
+        yield "%d-of-%d" % (count, length), stated(length, count)
+    # Longer than any table, and refused at its first bytes, had it come whole.
+    yield "long-cut", stated(5000, 4999, version=9)
+    for count in range(1, HEADER_BYTES):
+        yield "%d-left" % count, fifth[:count]
+        yield "%d-zeros-left" % count, bytes(count)
+        yield "%d-ones-left" % count, b"\xff" * count
+    yield "4-that-state-4", stated(4, 4)
+    yield "4-that-state-5", stated(5, 4)
+
+
+def drawn_piece(generator):
+    """A table, most often: a right one, a spoiled one, bytes of any kind, a long piece."""
+    way = generator.below(12)
+    version = generator.pick([1, 2, 3])
+    table = Draft(*generator.pick([any_small_table, any_tied_table])(generator, version),
+                  version).data()
+    if way < 6:
+        return table
+    if way < 9:
+        at = generator.pick([0, 3, 4, generator.between(5, len(table) - 1)])
+        return table[:at] + generator.bytes(1) + table[at + 1:]
+    if way == 9:
+        return with_stated_length(generator.bytes(generator.between(5, 120)))
+    if way == 10:
+        return with_stated_length(table + generator.bytes(generator.between(1, 40)))
+    return long_piece(generator, generator.between(4580, 6000), *generator.pick(LONG_HEADS))
+
+
+def drawn_file(generator):
+    """Most are whole; some end as a broken one does; in some a stated length is wrong, and what is
+    then read is not what was meant."""
+    pieces = [drawn_piece(generator) for _ in range(generator.between(1, 30))]
+    way = generator.below(6)
+    if way == 0:
+        pieces.append(generator.bytes(generator.between(1, 60)))
+    elif way == 1:
+        pieces[-1] = pieces[-1][:-generator.between(1, len(pieces[-1]) - 1)]
+    elif way == 2:
+        at = generator.below(len(pieces))
+        pieces[at] = pieces[at][:2] + generator.bytes(1) + pieces[at][3:]
+    return b"".join(pieces)
+
+
+def counted_tables():
+    """Each number of tasks, and so each bound."""
+    return [late_table(count) for count in range(1, MOST_TASKS + 1)]
+
+
+def made_reports():
+    """Files by their names, the same at every run."""
+    generator = Generator(SEED + 18)
+    term = term_tables()
+    yield "empty", b""
+    yield "term", b"".join(term)
+    yield "example", b"".join(term) + b"\x01\x00"
+    for name, table in zip(("good", "late", "over", "refused"), term):
+        yield "one-" + name, table
+        yield "three-" + name, table * 3
+    yield "good-and-late", term[0] + term[1] + term[0]
+    yield "late-and-refused", term[1] + term[3] + term[1]
+    whole = term[3] + table_of((9, 5, 5)) + term[1]
+    for length in range(len(whole) + 1):
+        yield "cut-at-%d" % length, whole[:length]
+    for name, end in broken_ends():
+        yield "broken-" + name, end
+        yield "broken-%s-behind" % name, term[0] + term[1] + end
+    yield "refusals", b"".join(refused_tables())
+    yield "hyperperiods", b"".join(light_table(periods) for periods, _ in HYPERPERIODS)
+    yield "utilisations", b"".join(table_of(*entries, version=3) for entries, _ in UTILISATIONS)
+    yield "counts", b"".join(counted_tables())
+    yield "versions", b"".join(bytes([version]) + table_of(*FIFTH, version=2)[1:]
+                               for version in range(256))
+    longest = Draft(listed(*[(1000, 1, 1000, 5, 9)] * MOST_TASKS),
+                    [Row(place, semaphore, 1) for place in range(196, 200)
+                     for semaphore in range(1, 17)], 3).data()
+    yield "longest", longest + term[0] + longest
+    for length in LONG_LENGTHS:
+        for head in LONG_HEADS if length < 5000 else LONG_HEADS[:4]:
+            piece = long_piece(generator, length, *head)
+            yield "long-%d-%d-%d-%d" % (length, *head), piece + term[0]
+    yield "long-twice", long_piece(generator, 65535, 1, 1, 0) * 2 + term[1]
+    for number in range(60):
+        yield "drawn-%d" % number, drawn_file(generator)
+
+
+def stored_report():
+    """The file that the crate itself is run on: some of all, with a broken end."""
+    generator = Generator(SEED + 19)
+    yield from term_tables()
+    yield from refused_tables()
+    for periods, _ in HYPERPERIODS:
+        yield light_table(periods)
+    for entries, _ in UTILISATIONS:
+        yield table_of(*entries, version=3)
+    for count in (*range(1, 33), 50, 64, 100, 128, 199):
+        yield late_table(count)
+    for length, head in zip(LONG_LENGTHS, LONG_HEADS):
+        yield long_piece(generator, length, *head)
+        yield table_of(*FIFTH)
+    for _ in range(240):
+        yield drawn_piece(generator)
+    yield stated(65535, 5000)
+
+
+# ---------------------------------------------------------------------------
 # A run, played tick by tick
 # ---------------------------------------------------------------------------
 
@@ -5300,6 +5624,88 @@ def check_texts(checks):
     check_text_lines(checks)
 
 
+def hyperperiod_by_steps(periods):
+    """The first multiple of the longest period that all divide."""
+    return next(number for number in itertools.count(max(periods), max(periods))
+                if not any(number % period for period in periods))
+
+
+def check_numbers_of_report(checks):
+    # "entry 1 is 1,000,000 and entry 2 is 828,427"
+    checks.same([bound_of(1), bound_of(2), bound_of(3)], [1000000, 828427, 779763], "bounds")
+    for count in range(1, MOST_TASKS + 1):
+        whole = MILLION * count
+        fits = [(whole + bound_of(count) + more) ** count <= 2 * whole ** count for more in (0, 1)]
+        checks.same(fits, [True, False], "bound of %d tasks" % count)
+    # They fall towards the natural logarithm of 2.
+    bounds = [bound_of(count) for count in range(1, MOST_TASKS + 1)]
+    checks.same(bounds == sorted(set(bounds), reverse=True) and bounds[-1] > 693147, True,
+                "the order of the bounds")
+    for periods, word in HYPERPERIODS:
+        tasks = listed(*((period, 1, period) for period in periods))
+        checks.same(hyperperiod_word(tasks), word, "hyperperiod of %r" % (periods[:9],))
+    generator = Generator(SEED + 20)
+    for _ in range(300):
+        periods = [generator.between(1, 30) for _ in range(generator.between(1, 4))]
+        tasks = listed(*((period, 1, period) for period in periods))
+        checks.same(hyperperiod_of(tasks), hyperperiod_by_steps(periods),
+                    "hyperperiod of %r" % periods)
+    for entries, utilisation in UTILISATIONS:
+        checks.same(utilisation_of(listed(*entries)), utilisation,
+                    "utilisation of %r" % entries[:9])
+
+
+def check_utilisation(checks, tasks):
+    # "at least the exact sum and less than it plus one per task"
+    exact = sum(fractions.Fraction(MILLION * task.cost, task.period) for task in tasks)
+    checks.same(exact <= utilisation_of(tasks) < exact + len(tasks), True,
+                "utilisation of %r" % (tasks[:9],))
+
+
+def check_reported(checks, table):
+    """What a report says of a table, beside the program's text for it."""
+    last = text_of(table).splitlines()[-1]
+    word, rest = reported(table)
+    checks.same(word, last.split()[0], "verdict in a report")
+    if word == "refused":
+        checks.same("refused " + rest, last, "refusal in a report")
+        return last.split(" at ")[0]
+    check_utilisation(checks, read_bytes(table)[0])
+    return word
+
+
+def check_report(checks, name, data):
+    """Its tables, and what closes it."""
+    tables, broken = split_tables(data)
+    behind = data[sum(map(len, tables)):]
+    checks.same(b"".join(tables) + behind, data, "the tables of the report %s" % name)
+    if name.startswith("broken"):
+        checks.same(broken, True, "the end of the report %s" % name)
+    lines = report_text(data).splitlines()
+    checks.same(lines[len(tables) + 1:], ["broken"] * bool(behind),
+                "the last lines of the report %s" % name)
+    return tables
+
+
+def check_reports(checks):
+    term = b"".join(term_tables())
+    checks.same(report_text(term), TERM_TEXT, "the request's report")
+    checks.same(report_text(term + b"\x01\x00"), TERM_TEXT + "broken\n",
+                "the request's broken report")
+    checks.same(report_text(b""), "schedulable 0 late 0 refused 0\n", "the report of an empty file")
+    folder = os.path.join(os.path.dirname(os.path.abspath(__file__)), os.pardir, "examples")
+    with open(os.path.join(folder, "term.tables"), "rb") as example:
+        checks.same(example.read(), term, "examples/term.tables")
+    check_numbers_of_report(checks)
+    tables = set()
+    for name, data in made_reports():
+        tables.update(check_report(checks, name, data))
+    # Each refusal but 1 turns up.
+    checks.same({check_reported(checks, table) for table in sorted(tables)},
+                {"schedulable", "late", *("refused %d" % number for number in range(2, 8))},
+                "what is said in the made reports")
+
+
 LONGEST_PLAIN_DEADLINE = 3000
 LONGEST_PLAYED_DEADLINE = 400
 
@@ -5917,10 +6323,15 @@ def command_make(arguments):
     write_file(arguments.folder, "expected", expected)
     write_file(arguments.folder, "claims", claims)
     write_file(arguments.folder, "expected-claims", expected_claims)
+    report = b"".join(stored_report())
+    expected_report = report_text(report).encode("ascii")
+    write_file(arguments.folder, "report", report)
+    write_file(arguments.folder, "expected-report", expected_report)
     print("reference: %d tables, %d bytes of tables, %d bytes of answers; %d lists of claims, "
-          "%d bytes with their tables, %d bytes of answers"
+          "%d bytes with their tables, %d bytes of answers; %d tables of a report, %d bytes, %d "
+          "bytes of lines"
           % (len(entries), len(tables), len(expected), len(claimed), len(claims),
-             len(expected_claims)))
+             len(expected_claims), len(split_tables(report)[0]), len(report), len(expected_report)))
 
 
 def command_check(_arguments):
@@ -5941,6 +6352,7 @@ def command_check(_arguments):
     claimed = list(all_claims())
     passing = check_claims(checks, claimed)
     check_texts(checks)
+    check_reports(checks)
     if checks.failed:
         sys.exit("reference: %d of %d checks failed" % (checks.failed, checks.done))
     print("reference: %d checks; the engine takes %d of %d tables; the busy times of %d tasks are "
@@ -6005,8 +6417,24 @@ def command_texts(arguments):
             write_file(arguments.folder, name + ".fault", b"%s\n" % str(fault).encode("ascii"))
 
 
-MAKE_HELP = """writes FOLDER/tables and FOLDER/expected, and FOLDER/claims and FOLDER/expected-claims,
-the same bytes at every run
+def command_report(arguments):
+    if arguments.file is None:
+        data = sys.stdin.buffer.read()
+    else:
+        with open(arguments.file, "rb") as source:
+            data = source.read()
+    sys.stdout.write(report_text(data))
+
+
+def command_reports(arguments):
+    os.makedirs(arguments.folder, exist_ok=True)
+    for name, data in made_reports():
+        write_file(arguments.folder, name + ".tables", data)
+        write_file(arguments.folder, name + ".report", report_text(data).encode("ascii"))
+
+
+MAKE_HELP = """writes FOLDER/tables and FOLDER/expected, FOLDER/claims and FOLDER/expected-claims,
+and FOLDER/report and FOLDER/expected-report, the same bytes at every run
 
 An entry of "tables" is 2 bytes, big-endian, with the table's length; 1 byte with the length in
 words of the slice lent for answers; 1 byte with that of the slice lent for rounds; and the
@@ -6030,6 +6458,9 @@ An entry of "claims" is 2 bytes, big-endian, with the table's length; 1 byte wit
 claims; the table's bytes; and each claim as 4 bytes, big-endian. "expected-claims" holds for each
 entry K, counted from 0, a line "claims K" and a line with "pass", "fails" and the first place that
 fails, or the refusal.
+
+"report" is tables end to end with a broken end, as a term's report takes them; "expected-report" is
+what is printed for it.
 """ % (FILLER, FILLER, OPEN)
 
 CLASSES_HELP = """writes one table for each class that is measured, FOLDER/NAME.table, and prints
@@ -6049,6 +6480,12 @@ and prints for each a line with its name, the number of ticks that are played, a
 TEXTS_HELP = """writes some 400 texts of tables, right ones and faulty ones, FOLDER/000.txt and so
 on, the same bytes at every run; and beside each FOLDER/000.bytes with its table's bytes, or, where
 it cannot be read, FOLDER/000.fault with the line that tells why.
+"""
+
+
+REPORTS_HELP = """writes some 300 files as a term's report takes them, whole ones and broken ones,
+FOLDER/NAME.tables, the same bytes at every run; and beside each FOLDER/NAME.report with what is
+printed for it.
 """
 
 
@@ -6098,6 +6535,15 @@ def parse_arguments():
                                 description=TEXTS_HELP, formatter_class=raw)
     texts.add_argument("folder", metavar="FOLDER")
     texts.set_defaults(run=command_texts)
+
+    report = commands.add_parser("report", help="print the report of many tables, end to end")
+    report.add_argument("file", nargs="?", metavar="FILE", help="else standard input")
+    report.set_defaults(run=command_report)
+
+    reports = commands.add_parser("reports", help="write files of many tables and their reports",
+                                  description=REPORTS_HELP, formatter_class=raw)
+    reports.add_argument("folder", metavar="FOLDER")
+    reports.set_defaults(run=command_reports)
 
     runs = commands.add_parser("runs", help="play every run of small tables with ties")
     runs.set_defaults(run=command_runs)
