@@ -41,8 +41,8 @@ module _ (report : Report) {store : List ℕ} (more : List ℕ) (c : Countable r
   come-fits = omega (arith, c .few, c .behind .come, bytes-long (c .bytes))
 
   module _ {kept : ℕ} {new : List ℕ} (a : Appended store (report .kept) more kept new) where
-    pub half-there : 1 + 2 ≤ length new
-    half-there = omega (arith, new-long (c .behind) more a)
+    pub head-there : 5 ≤ length new
+    head-there = omega (arith, new-long (c .behind) more a)
 
     pub kept-within : kept ≤ length new
     kept-within = ends-within a (ends-within (c .behind .stored) (omega arith))

@@ -181,10 +181,6 @@ module _ (report : Report) {store more : List ℕ} {kept : ℕ} {new : List ℕ}
     pub come-head : {old bytes : List ℕ} → Behind old bytes report store → 5 ≤ length (leftIn bytes ++ more)
     come-head {bytes = bytes} b = head-come (leftIn bytes) more (not-begun b more) (fits-left b) (all-come b)
 
-    -- the store has the length that is stated
-    pub half-inside : {old bytes : List ℕ} → Behind old bytes report store → 1 + 2 ≤ length new
-    half-inside b = omega (arith, new-long b more a)
-
     pub goes-headed : {out : List ℕ} {at stated : ℕ} {longer : Report} → longer ≡ gatheredTo report (report .come + length more) stated kept → stated ≡ statedLength new → (stated ≡ report .come + length more → ⊥) →
         GoesOn report store more out at (record { report = longer; end = at }) new out
     goes-headed {out} {at} {stated} {longer} l s h =

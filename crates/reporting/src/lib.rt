@@ -6,6 +6,7 @@ ghost use Prim.Native.Nat.{_+_, _-_, _≤_, _<_, min};
 ghost use lib.Dec.{ltb};
 ghost use lib.ListN.{length};
 ghost use Rattle.model.specs.Choice.{pick};
+ghost use Rattle.tables.specs.Layout.{statedLength};
 ghost use Rattle.printing.specs.Appended.{Appended};
 ghost use Rattle.report_lines.specs.Line.{judgedAs, lineOf};
 ghost use Rattle.reporting.specs.Report.{reportOf, totalsLine, brokenLine};
@@ -97,7 +98,7 @@ fn take_in(report: Report, more: &[u8], store: &mut [u8], out: &mut [u8], at: us
         };
     }
     // of a table whose head has just come this is the first look at the length that it states
-    let stated = half(store, STATED_AT) as usize;
+    let stated = stated_length(store);
     if stated != come {
         let longer = gathered(report, come, stated, kept);
         return Told {
@@ -106,6 +107,14 @@ fn take_in(report: Report, more: &[u8], store: &mut [u8], out: &mut [u8], at: us
         };
     }
     end_table(report, &store[..kept], out, at)
+}
+
+// The length that a table states in its head.
+fn stated_length(table: &[u8]) -> usize
+    requires { ⌜ 5 ≤ length (now table) ⌝ }
+    ensures { λ r. ⌜ r ≡ statedLength (now (table .entry)) ⌝ }
+{
+    half(table, STATED_AT) as usize
 }
 
 // The same counts, with more of the table at hand.
