@@ -4,3 +4,4 @@ pub mod PastSampleTexts
 pub mod PastExampleLaws
 pub mod SampleForms
 pub mod TextExampleLaws
+pub mod SampleReports

@@ -4,3 +4,4 @@ pub mod PastSamples
 pub mod PastExamples
 pub mod FormSamples
 pub mod TextExamples
+pub mod ReportSamples

@@ -95,7 +95,7 @@ passed k v = leb ((1000000 * suc k + v) ^ suc k) (2 * (1000000 * suc k) ^ suc k)
 unfoldable pub right : ℕ → ℕ → Bool
 right k v = both (passed k v) (isOver (suc k) (v + 1))
 
-right-means : (k v : ℕ) → right k v ≡ true → v ≡ boundOf (suc k)
+pub right-means : (k v : ℕ) → right k v ≡ true → v ≡ boundOf (suc k)
 unfolding right
 right-means k v p =
     let tests = both-true (passed k v) (isOver (suc k) (v + 1)) p in
