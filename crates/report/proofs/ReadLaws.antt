@@ -10,7 +10,7 @@ use Rattle.reporting.specs.declared.Report.{Report}
 use Rattle.reporting.specs.declared.Told.{Told}
 use Rattle.reporting.specs.Streaming.{begun, storeSize, Behind, GoesOn, Countable, linesRoom}
 use Rattle.reporting.proofs.StreamLaws.{behind-none}
-use Rattle.reporting.proofs.LengthLaws.{lines-within}
+use Rattle.report.specs.Input.{BehindRead}
 
 -- The loop of `report_all`: so many bytes are read.
 pub record Sofar (store₀ store piece out : List ℕ) (report : Report) (total : ℕ) : Type 0 where
@@ -36,8 +36,8 @@ sofar-none {store} e room p o =
     }
 
 module _ {store₀ store piece out : List ℕ} {report : Report} {total : ℕ} (s : Sofar store₀ store piece out report total) where
-  pub sofar-read : Countable report store 0
-  sofar-read = record { old = store₀; bytes = s .bytes; behind = s .behind; few = omega (arith, s .long, s .most) }
+  pub sofar-read : BehindRead report total store
+  sofar-read = record { old = store₀; bytes = s .bytes; long = s .long; behind = s .behind }
 
   module _ (got : List ℕ) (taken : ℕ) (room : length got ≡ 4096) (counts : Counts taken got) where
     pub sofar-countable : Countable report store (length (take taken got))

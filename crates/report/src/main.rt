@@ -16,12 +16,12 @@ use reporting::Told;
 // A proved count of bytes has to end somewhere, and no input is that long: 2^63 bytes.
 const MOST_BYTES: usize = 9223372036854775808;
 
-// What became of the input: it was read to its end, or to where the report is closed; or why it was not.
+// What became of the input: so many bytes of it were read, to its end or to where the report is closed; or why they were not.
 enum Input {
     Failed,
     Unwritten,
     TooLong,
-    Read(Report),
+    Read(Report, usize),
 }
 
 fn main() {
@@ -31,7 +31,7 @@ fn main() {
         Input::Failed => os::fail(b"the tables"),
         Input::Unwritten => os::fail(b"the report"),
         Input::TooLong => say_too_long(),
-        Input::Read(report) => close(report),
+        Input::Read(report, _) => close(report),
     }
 }
 
@@ -51,17 +51,17 @@ fn report_all(store: &mut [u8]) -> Input
         }
         let taken = io::count(got, &piece);
         if taken == 0 {
-            return Input::Read(report);
+            return Input::Read(report, total);
         }
         let told = lines(report, &piece[..taken], store, &mut out);
         if !io::write_all(STDOUT_FILENO, &out[..told.end]) {
             return Input::Unwritten;
         }
         report = told.report;
-        if reporting::is_closed(report) {
-            return Input::Read(report);
-        }
         total = total + taken;
+        if reporting::is_closed(report) {
+            return Input::Read(report, total);
+        }
     }
     Input::TooLong
 }
