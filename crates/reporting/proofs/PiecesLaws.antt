@@ -19,10 +19,11 @@ use Rattle.reporting.specs.declared.Told.{Told}
 use Rattle.reporting.specs.Cutting.{tablesFrom, leftFrom, tablesIn, leftIn, isBroken, Begins}
 use Rattle.reporting.specs.Report.{linesFrom, schedulableIn, lateIn, refusedIn, totalsLine, brokenLine, closingText, reportOf}
 use Rattle.reporting.specs.Streaming.{begun, storeSize, Behind, linesMore, GoesOn, Countable, NoSecondTold, closingBy, linesRoom, Call, pieceOf, textOf, Follow, lastOf, AnyPieces, ClosedEarly}
+use Rattle.reporting.specs.Longest.{ReportFits}
 use Rattle.reporting.proofs.CuttingLaws.{is-cut, stated-front, tables-more, left-more, none-whole}
 use Rattle.reporting.proofs.DueLaws.{closed-low}
 use Rattle.reporting.proofs.StreamLaws.{lines-both, behind-none}
-use Rattle.reporting.proofs.LengthLaws.{linesFit}
+use Rattle.reporting.proofs.LengthLaws.{linesFit, closingFits}
 
 -- what is said behind the last byte
 totals-same : {a b c d e f : ℕ} → a ≡ d → b ≡ e → c ≡ f → totalsLine a b c ≡ totalsLine d e f
@@ -91,6 +92,22 @@ unfolding tablesFrom leftFrom linesFrom
 text-of-file {report} store {file} {out} {between} {written} {kept} {told} {end} e room g f =
     let start = subst (λ (r : Report). Behind store [] r store) (sym e) (behind-none store room) in
     as-text (then (g .lines store [] start) f) (report-is (g .behind store [] start))
+
+-- the report of a file, as lines that come behind no bytes and what is said behind them: no longer than both
+pub reportFits : ReportFits
+unfolding tablesFrom leftFrom reportOf
+reportFits bytes =
+    let tables = tablesIn bytes in
+    let end : Report =
+    record {
+      schedulable = schedulableIn tables;
+      late = lateIn tables;
+      refused = refusedIn tables;
+      come = length (leftIn bytes);
+      due = 0;
+      kept = 0;
+    } in
+    omega (arith, length-append (linesFrom 0 tables) (closingText bytes), linesFit [] bytes, closingFits end)
 
 -- a stated length below 5 stays one
 pub closedEarly : ClosedEarly

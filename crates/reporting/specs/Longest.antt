@@ -5,6 +5,7 @@ use Prim.Native.Nat.{ℕ, _+_, _≤_}
 use mathlib.Core.List.{List}
 use lib.ListN.{length}
 use Rattle.reporting.specs.declared.Report.{Report}
+use Rattle.reporting.specs.Report.{reportOf}
 use Rattle.reporting.specs.Streaming.{linesMore, linesRoom, closingBy}
 
 -- The lines of the tables that end in some bytes more have no more bytes than that.
@@ -17,3 +18,7 @@ closingRoom = 95
 
 abbrev pub ClosingFits : Type 0
 ClosingFits = (report : Report) → length (closingBy report) ≤ closingRoom
+
+-- so that a whole report has no more than both together
+abbrev pub ReportFits : Type 0
+ReportFits = (bytes : List ℕ) → length (reportOf bytes) ≤ linesRoom (length bytes) + closingRoom
