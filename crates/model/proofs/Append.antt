@@ -3,9 +3,9 @@
 use Prim.Native.Nat.{ℕ, zero, suc, _+_, _<_}
 use native.Mathlib.Nat.{zero-add, le-of-suc-le-suc}
 use native.Mathlib.Omega.{arith}
-use mathlib.Core.Path.{_≡_, refl, sym, _∙_}
+use mathlib.Core.Path.{_≡_, refl, sym, _∙_, ap}
 use mathlib.Core.Logic.{_⊎_, inl, inr}
-use mathlib.Core.List.{List, [], _∷_, _++_}
+use mathlib.Core.List.{List, [], _∷_, _++_, flatten, append-assoc}
 use lib.ListN.{length, getD}
 use lib.Seq.{ext-getD}
 use Rattle.model.specs.Lists.{tabulate}
@@ -28,6 +28,13 @@ module _ {A : Type 0} where
       ((j : ℕ) → j < length ys → holds (getD ys j d)) → (j : ℕ) → j < length (xs ++ ys) → holds (getD (xs ++ ys) j d)
   each-append d holds xs ys left right j h =
       elim (append-at d xs ys j h) [ inl p ↦ rw (p .1) (left j (p .0)) | inr p ↦ rw (p .3) (right (p .0) (p .1)) ]
+
+  -- lists of lists, put together and joined
+  pub flatten-append : (xs ys : List (List A)) → flatten (xs ++ ys) ≡ flatten xs ++ flatten ys
+  unfolding flatten
+  flatten-append [] ys = refl
+  flatten-append (x ∷ xs) ys =
+      ap (λ (rest : List A). x ++ rest) (flatten-append xs ys) ∙ sym (append-assoc x (flatten xs) (flatten ys))
 
   -- a list is what it holds at its places
   pub list-is : (f : ℕ → A) (xs : List A) (d : A) → ((i : ℕ) → i < length xs → f i ≡ getD xs i d) → tabulate f (length xs) ≡ xs

@@ -24,8 +24,8 @@ use Rattle.response.specs.Verdicts.{verdictPlace}
 use Rattle.response.specs.Analysis.{answerOf}
 use Rattle.response.specs.Outcome.{verdictFor, verdictOf}
 use Rattle.response.proofs.PlaceLaws.{verdict-place}
-use Rattle.printing.specs.Text.{bytesOf, decimalOf, withNumber, lineWithNumber, refusedLine}
-use Rattle.printing.proofs.LengthLaws.{digitCount, twenty-digits, number-long, line-long}
+use Rattle.printing.specs.Text.{bytesOf, decimalOf, withNumber, refusedLine}
+use Rattle.printing.proofs.LengthLaws.{twenty-digits, number-long, line-long}
 use Rattle.printing.proofs.LongestLaws.{refused-long}
 use Rattle.utilisation.specs.Utilisation.{utilisationOf}
 use Rattle.utilisation.specs.Bound.{boundOf}

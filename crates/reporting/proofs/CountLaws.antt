@@ -1,11 +1,10 @@
 -- The three counts: each table is counted once, and they add up.
 -- Assumes nothing.
-use Prim.Native.Nat.{ℕ, suc, _+_}
+use Prim.Native.Nat.{_+_}
 use native.Mathlib.Omega.{arith}
 use native.Mathlib.Nat.{add-zero}
 use mathlib.Core.Path.{_≡_, refl}
-use mathlib.Core.List.{List, [], _∷_}
-use lib.ListN.{length}
+use mathlib.Core.List.{[], _∷_}
 use Rattle.model.specs.Lists.{sumOf}
 use Rattle.model.specs.declared.Place.{Place}
 use Rattle.tables.specs.declared.Refusal.{Refusal}
@@ -14,7 +13,7 @@ use Rattle.answering.specs.declared.Verdict.the-variants.{Refused, Schedulable,
 use Rattle.report_lines.specs.Line.{judgedAs}
 use Rattle.reporting.specs.declared.Report.{Report}
 use Rattle.reporting.specs.Streaming.{freshWith, countedBy}
-use Rattle.reporting.specs.Report.{schedulableOne, lateOne, refusedOne, isSchedulable, isLate, isRefused, CountsAddUp}
+use Rattle.reporting.specs.Report.{schedulableOne, lateOne, refusedOne, CountsAddUp}
 
 one-each : (v : Verdict) → schedulableOne v + lateOne v + refusedOne v ≡ 1
 one-each (Refused refusal) = refl

@@ -3,24 +3,20 @@
 use Prim.Native.Nat.{ℕ, zero, suc, _+_, _-_, _≤_, _<_}
 use native.Mathlib.Omega.{arith}
 use mathlib.Core.Path.{_≡_, refl, sym, _∙_, ap, subst}
-use mathlib.Core.Bool.{Bool, true, false}
+use mathlib.Core.Bool.{true, false}
 use mathlib.Core.Logic.{_⊎_, inl, inr}
 use mathlib.Core.List.{List, [], _∷_, _++_, flatten, append-assoc, append-nil}
-use lib.Dec.{ltb}
 use lib.ListN.{length, take, drop, getD, length-append, length-take, length-drop, take-append-drop}
-use lib.Seq.{take-at, drop-at, getD-take, take-append-seam, drop-append-seam}
-use borrow.Author.Tests.{le-leb, lt-leb, eq-eqb, ne-eqb}
-use Rattle.model.specs.Choice.{pick, either}
+use lib.Seq.{take-at, drop-at, getD-take, take-append-seam}
 use Rattle.model.proofs.Tests.{ltb?}
-use Rattle.model.proofs.Append.{append-at}
+use Rattle.model.proofs.Append.{flatten-append}
 use Rattle.tables.specs.Layout.{statedLength}
 use Rattle.reporting.specs.Cutting.{isClosed, tablesFrom, leftFrom, tablesIn, leftIn, Begins, Stated, AllStated, Cut, CutRight}
 
 -- the first bytes of a list that has them are those of a list that it begins
 getD-front : (xs ys : List ℕ) (i : ℕ) → i < length xs → getD (xs ++ ys) i 0 ≡ getD xs i 0
-getD-front [] ys i h = absurd (omega (arith, h))
-getD-front (x ∷ xs) ys zero h = refl
-getD-front (x ∷ xs) ys (suc i) h = getD-front xs ys i (omega (arith, h))
+getD-front xs ys i h =
+    sym (getD-take (length xs) (xs ++ ys) i 0 h) ∙ ap (λ (zs : List ℕ). getD zs i 0) (take-append-seam xs ys)
 
 pub stated-front : (xs ys : List ℕ) → 3 ≤ length xs → statedLength (xs ++ ys) ≡ statedLength xs
 stated-front xs ys h =
@@ -134,12 +130,6 @@ is-cut bytes = found-cut (length bytes) bytes (omega arith)
 pub cutRight : CutRight
 cutRight = record { cut = is-cut; only = λ bytes pieces left c. one-way pieces (tablesIn bytes) c (is-cut bytes) }
 
-flatten-both : (xs ys : List (List ℕ)) → flatten (xs ++ ys) ≡ flatten xs ++ flatten ys
-unfolding flatten
-flatten-both [] ys = refl
-flatten-both (x ∷ xs) ys =
-    ap (λ (zs : List ℕ). x ++ zs) (flatten-both xs ys) ∙ sym (append-assoc x (flatten xs) (flatten ys))
-
 stated-both : (xs ys : List (List ℕ)) → AllStated xs → AllStated ys → AllStated (xs ++ ys)
 stated-both [] ys p q = q
 stated-both (x ∷ xs) ys p q = (p .0, stated-both xs ys (p .1) q)
@@ -150,7 +140,7 @@ cut-more : {bytes left rest : List ℕ} {pieces others : List (List ℕ)} (more 
 cut-more {bytes} {left} {rest} {pieces} {others} more c d =
     record {
       whole =
-          ap (λ (xs : List ℕ). xs ++ rest) (flatten-both pieces others)
+          ap (λ (xs : List ℕ). xs ++ rest) (flatten-append pieces others)
           ∙ append-assoc (flatten pieces) (flatten others) rest
           ∙ ap (λ (xs : List ℕ). flatten pieces ++ xs) (d .whole)
           ∙ sym (append-assoc (flatten pieces) left more)

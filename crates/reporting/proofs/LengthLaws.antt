@@ -3,7 +3,7 @@
 use Prim.Native.Nat.{ℕ, suc, _+_, _*_, _≤_, _<_}
 use native.Mathlib.Omega.{arith}
 use native.Mathlib.Decide.{decLe}
-use mathlib.Core.Path.{_≡_, refl, sym, _∙_, ap}
+use mathlib.Core.Path.{_≡_, sym, _∙_, ap}
 use mathlib.Core.Bool.{Bool, true, false}
 use mathlib.Core.List.{List, [], _∷_, _++_, flatten, append-assoc}
 use lib.Dec.{ltb}
@@ -18,7 +18,7 @@ use Rattle.reporting.specs.Cutting.{tablesIn, leftIn, Begins, Stated, Al
 use Rattle.reporting.specs.declared.Report.{Report}
 use Rattle.reporting.specs.declared.Told.{Told}
 use Rattle.reporting.specs.Report.{linesFrom, brokenLine}
-use Rattle.reporting.specs.Streaming.{linesMore, linesRoom, GoesOn, Countable, closingBy}
+use Rattle.reporting.specs.Streaming.{linesMore, linesRoom, GoesOn, Countable}
 use Rattle.reporting.specs.Longest.{LinesFit, ClosingFits}
 use Rattle.reporting.proofs.CuttingLaws.{is-cut, stated-front, stated-by}
 

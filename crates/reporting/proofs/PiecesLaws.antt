@@ -3,14 +3,12 @@
 use Prim.Native.Nat.{ℕ, _+_, _≤_, _<_}
 use native.Mathlib.Omega.{arith}
 use native.Mathlib.Nat.{zero-add}
-use mathlib.Core.Path.{_≡_, refl, sym, _∙_, ap, subst}
+use mathlib.Core.Path.{_≡_, sym, _∙_, ap, subst}
 use mathlib.Core.Bool.{Bool}
 use mathlib.Core.List.{List, [], _∷_, _++_, flatten, map, append-assoc, append-nil}
 use lib.Dec.{ltb}
 use lib.ListN.{length, take, length-append}
 use borrow.Author.Tests.{lt-ltb}
-use Rattle.model.specs.Lists.{sumOf}
-use Rattle.tables.specs.Layout.{statedLength}
 use Rattle.printing.specs.Appended.{Appended}
 use Rattle.printing.proofs.AppendLaws.{noSecondText, then, as-text}
 use Rattle.printing.proofs.LongestLaws.{whole}
@@ -18,7 +16,7 @@ use Rattle.reporting.specs.declared.Report.{Report}
 use Rattle.reporting.specs.declared.Told.{Told}
 use Rattle.reporting.specs.Cutting.{tablesFrom, leftFrom, tablesIn, leftIn, isBroken, Begins}
 use Rattle.reporting.specs.Report.{linesFrom, schedulableIn, lateIn, refusedIn, totalsLine, brokenLine, closingText, reportOf}
-use Rattle.reporting.specs.Streaming.{begun, storeSize, Behind, linesMore, GoesOn, Countable, NoSecondTold, closingBy, linesRoom, Call, pieceOf, textOf, Follow, lastOf, AnyPieces, ClosedEarly}
+use Rattle.reporting.specs.Streaming.{begun, storeSize, Behind, linesMore, GoesOn, NoSecondTold, closingBy, linesRoom, Call, pieceOf, textOf, Follow, lastOf, AnyPieces, ClosedEarly}
 use Rattle.reporting.specs.Longest.{ReportFits}
 use Rattle.reporting.proofs.CuttingLaws.{is-cut, stated-front, tables-more, left-more, none-whole}
 use Rattle.reporting.proofs.DueLaws.{closed-low}

@@ -1,7 +1,7 @@
 -- Many tables end to end in one file: where one ends and the next begins (SPECIFICATION 13.12; document 02, L10). The proofs are in
 -- proofs/CuttingLaws.antt.
 -- Assumes nothing.
-use Prim.Native.Nat.{ℕ, zero, suc, _≤_, _<_}
+use Prim.Native.Nat.{ℕ, zero, suc, _≤_}
 use mathlib.Core.Path.{_≡_}
 use mathlib.Core.Bool.{Bool}
 use mathlib.Core.List.{List, [], _∷_, _++_, flatten}

@@ -1,7 +1,6 @@
 // A report of many tables that stand end to end in one file (SPECIFICATION 13.12; document 02, L10). It is told of the file's bytes piece by
 // piece, cut anywhere, and keeps three counts and the bytes of the table at hand.
 ghost use mathlib.Core.Path.{_≡_};
-ghost use mathlib.Core.List.{_++_};
 ghost use Prim.Native.Nat.{_+_, _-_, _≤_, _<_, min};
 ghost use lib.Dec.{ltb};
 ghost use lib.ListN.{length};
@@ -9,7 +8,7 @@ ghost use Rattle.model.specs.Choice.{pick};
 ghost use Rattle.tables.specs.Layout.{statedLength};
 ghost use Rattle.printing.specs.Appended.{Appended};
 ghost use Rattle.report_lines.specs.Line.{judgedAs, lineOf};
-ghost use Rattle.reporting.specs.Report.{reportOf, totalsLine, brokenLine};
+ghost use Rattle.reporting.specs.Report.{reportOf};
 ghost use Rattle.reporting.specs.Streaming.{begun, gatheredTo, freshWith, countedIn, countedBy, GoesOn, Countable, closingBy};
 use printing::append;
 use printing::append_with_number;

@@ -11,6 +11,7 @@ use mathlib.Core.List.{List, [], _∷_, _++_, flatten, append-nil, append-assoc}
 use lib.Dec.{leb}
 use lib.ListN.{length, take, getD, length-append, length-take}
 use lib.Seq.{sets, take-suc, take-all, length-sets}
+use Rattle.model.proofs.Append.{flatten-append}
 use Rattle.model.proofs.Tests.{bool?}
 use Rattle.scanning.specs.declared.Scanned.{Scanned}
 use Rattle.scanning.specs.declared.State.{State}
@@ -240,12 +241,6 @@ stuck-piece : (scan : Scan) (piece : List ℕ) → stuck (scan .state) ≡ true 
 stuck-piece scan piece h =
     rw (stuck-state (scan .state) (scan .at .0) piece h)
     (stuck-answer (scan .state) _ _ h)
-
-flatten-append : (pieces more : List (List ℕ)) → flatten (pieces ++ more) ≡ flatten pieces ++ flatten more
-unfolding flatten
-flatten-append [] more = refl
-flatten-append (piece ∷ pieces) more =
-    ap (λ (rest : List ℕ). piece ++ rest) (flatten-append pieces more) ∙ sym (append-assoc piece (flatten pieces) (flatten more))
 
 pub piecesRight : PiecesRight
 unfolding through

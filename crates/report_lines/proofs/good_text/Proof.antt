@@ -1,6 +1,6 @@
 -- `report_lines::good_text` meets its contract: the word, then the three figures.
 -- Assumes nothing.
-use mathlib.Core.Path.{_≡_, _∙_, ap}
+use mathlib.Core.Path.{_∙_, ap}
 use Rattle.printing.proofs.AppendLaws.{then, as-text}
 use Rattle.utilisation.specs.Bound.{boundOf}
 use Rattle.report_lines.proofs.LineLaws.{some-tasks, figures-are}

@@ -1,6 +1,6 @@
 -- `report_lines::table_line` meets its contract: the number, then what the verdict asks for.
 -- Assumes nothing.
-use mathlib.Core.Path.{_≡_, sym, _∙_}
+use mathlib.Core.Path.{sym, _∙_}
 use Rattle.printing.proofs.AppendLaws.{then, as-text}
 use Rattle.report_lines.proofs.LineLaws.{schedulable-right, late-right, line-is}
 use borrow.Author.Needs.{needs}

@@ -1,6 +1,6 @@
 -- `reporting::counted` meets its contract, case by case.
 -- Assumes nothing.
-use mathlib.Core.Path.{_≡_, sym, _∙_, ap}
+use mathlib.Core.Path.{sym, _∙_, ap}
 use Rattle.reporting.specs.Streaming.{countedBy}
 use Rattle.reporting.proofs.CountLaws.{counted-refused, counted-schedulable, counted-late}
 use borrow.Author.Needs.{needs}

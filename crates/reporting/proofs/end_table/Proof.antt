@@ -1,6 +1,6 @@
 -- `reporting::end_table` meets its contract: the line of the table, and the count.
 -- Assumes nothing.
-use mathlib.Core.Path.{_≡_, _∙_, ap}
+use mathlib.Core.Path.{_∙_, ap}
 use Rattle.reporting.specs.Streaming.{countedBy}
 use borrow.Author.Needs.{needs}
 use Rattle.reporting.proofs.end_table.Statement.{statement}
