@@ -14,7 +14,7 @@ use Rattle.tables.specs.Fields.{periodField}
 use Rattle.tables.specs.Meaning.{TableRight}
 use Rattle.tables.proofs.WalkLaws.{Walking, walking-first, walked, period-within, walking-more}
 use Rattle.multiples.specs.declared.Multiple.the-variants.{Number, Over}
-use Rattle.multiples.specs.Multiples.{leastMultiple, AllDivide, IsLeastMultiple, AllPositive, shown, periodOf, hyperperiodOf, TablePeriods}
+use Rattle.multiples.specs.Multiples.{leastMultiple, AllDivide, IsLeastMultiple, AllPositive, shown, periodOf, hyperperiodOf, TablePeriods, ShownDrawn}
 use Rattle.multiples.proofs.MultipleLaws.{leastMultipleRight, is-found, least-none, pair-right, least-more}
 
 -- the periods of the first i tasks
@@ -53,6 +53,9 @@ module _ (bytes : List ℕ) where
       rw periods-are
       (least .least (leastMultiple (periods bytes (taskCount bytes))) (all .positive)
       (first-divide (taskCount bytes) i (leastMultiple (periods bytes (taskCount bytes))) within (all .multiple)))
+
+pub shownDrawn : ShownDrawn
+shownDrawn = (refl, refl)
 
 pub tablePeriods : TablePeriods
 tablePeriods bytes right = rw (periods-are bytes) (all-positive bytes right)

@@ -61,6 +61,10 @@ OneMore =
 abbrev pub shown : ℕ → Multiple
 shown m = pick (leb m 1000000000000) (Number m) Over
 
+-- at both sides of it. (10^12 is no table's: it is 2^12 · 5^12, and 5^12 is above every period.)
+abbrev pub ShownDrawn : Type 0
+ShownDrawn = (shown 1000000000000 ≡ Number 1000000000000) × (shown 1000000000001 ≡ Over)
+
 abbrev pub periodOf : Task → ℕ
 periodOf t = t .period
 

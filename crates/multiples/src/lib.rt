@@ -2,6 +2,7 @@
 ghost use mathlib.Core.Path.{_≡_};
 ghost use mathlib.Core.List.{[], _∷_};
 ghost use Prim.Native.Nat.{_≤_};
+ghost use lib.Dec.{ltb};
 ghost use Rattle.tables.specs.Layout.{tasksOf};
 ghost use Rattle.tables.specs.Meaning.{TableRight};
 ghost use Rattle.multiples.specs.Divisors.{GreatestDivisor};
@@ -13,8 +14,8 @@ use tables::VERSION_AT;
 use tables::fields::count;
 use tables::fields::word;
 
-// "above 10^12 print "over"": 10^12 itself is a number.
-pub const LARGEST: u64 = 1000000000000;
+// The largest multiple that is printed.
+const LARGEST: u64 = 1000000000000;
 
 pub enum Multiple {
     Number(u64),
@@ -38,6 +39,13 @@ fn joined(before: u64, period: u32) -> u64
     before / gcd(before, next) * next
 }
 
+// "above 10^12 print "over"": 10^12 itself is a number.
+fn is_over(multiple: u64) -> bool
+    ensures { λ r. ⌜ r ≡ ltb 1000000000000 multiple ⌝ }
+{
+    LARGEST < multiple
+}
+
 // "the periods' least common multiple" of a table that was accepted. Once it is over it stays so: that of more periods is no less.
 pub fn hyperperiod(table: &[u8]) -> Multiple
     requires { ⌜ TableRight (now table) ⌝ }
@@ -49,7 +57,7 @@ pub fn hyperperiod(table: &[u8]) -> Multiple
     let mut at = HEAD_SIZE;
     for i in 0..n {
         common = joined(common, word(table, at + PERIOD_AT));
-        if LARGEST < common {
+        if is_over(common) {
             return Multiple::Over;
         }
         at += layout.size;

@@ -2,12 +2,13 @@
 -- Assumes nothing.
 use Prim.Native.Nat.{ℕ}
 use mathlib.Core.Path.{_≡_}
+use mathlib.Core.Bool.{true}
 use mathlib.Core.List.{List}
 use lib.ListN.{length}
 use Rattle.reporting.specs.declared.Report.{Report}
-use Rattle.reporting.specs.Streaming.{Behind}
+use Rattle.reporting.specs.Streaming.{Behind, closedBy}
 use Rattle.report.specs.declared.Input.{Input}
-use Rattle.report.specs.declared.Input.the-variants.{Failed, Unwritten, TooLong, Read}
+use Rattle.report.specs.declared.Input.the-variants.{Failed, Unwritten, TooLong, Read, Closed}
 
 -- What is kept is what is kept behind so many bytes, all that were read. (That they are those on standard input can't be said: the contract
 -- of the system's read says nothing of the bytes.)
@@ -23,3 +24,5 @@ inputRead Failed store = Unit
 inputRead Unwritten store = Unit
 inputRead TooLong store = Unit
 inputRead (Read report total) store = BehindRead report total store
+-- and here the report is closed: what is still to come changes nothing (`ClosedEarly`, in crates/reporting/specs/Streaming.antt)
+inputRead (Closed report total) store = BehindRead report total store × (closedBy report ≡ true)

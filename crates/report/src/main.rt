@@ -16,12 +16,13 @@ use reporting::Told;
 // A proved count of bytes has to end somewhere, and no input is that long: 2^63 bytes.
 const MOST_BYTES: usize = 9223372036854775808;
 
-// What became of the input: so many bytes of it were read, to its end or to where the report is closed; or why they were not.
+// What became of the input: so many bytes of it were read, to its end, or to where they close the report; or why they were not.
 enum Input {
     Failed,
     Unwritten,
     TooLong,
     Read(Report, usize),
+    Closed(Report, usize),
 }
 
 fn main() {
@@ -32,6 +33,7 @@ fn main() {
         Input::Unwritten => os::fail(b"the report"),
         Input::TooLong => say_too_long(),
         Input::Read(report, _) => close(report),
+        Input::Closed(report, _) => close(report),
     }
 }
 
@@ -60,7 +62,7 @@ fn report_all(store: &mut [u8]) -> Input
         report = told.report;
         total = total + taken;
         if reporting::is_closed(report) {
-            return Input::Read(report, total);
+            return Input::Closed(report, total);
         }
     }
     Input::TooLong

@@ -26,17 +26,12 @@ use Rattle.answering.specs.declared.Verdict.the-variants.{Refused}
 use Rattle.response.specs.Outcome.{verdictOf}
 use Rattle.report_lines.specs.Line.{judgedAs, lineOf}
 use Rattle.reporting.specs.Cutting.{Stated}
+use Rattle.reporting.specs.Streaming.{Alike, LongPieces}
 
 -- what the head deserves is what the table gets
 refused-by-head : (bytes : List ℕ) (refusal : Refusal) → check.Refused refusal ≡ headCheck bytes → verdictOf bytes 200 200 ≡ Refused refusal
 unfolding verdictOf tableCheckSpanning firstIn orElse
 refused-by-head bytes refusal e = rw (sym e) refl
-
--- both are refused alike
-pub record Alike (first second : List ℕ) : Type 0 where
-  pub refusal : Refusal
-  pub one : verdictOf first 200 200 ≡ Refused refusal
-  pub other : verdictOf second 200 200 ≡ Refused refusal
 
 module _ (piece : List ℕ) (s : Stated piece) (long : 4590 ≤ length piece) where
   front : List ℕ
@@ -75,7 +70,7 @@ module _ (piece : List ℕ) (s : Stated piece) (long : 4590 ≤ length piece) wh
       let rows = between-means 0 64 (rowCount piece) m .high in
       omega (arith, mul-le-mul (sound .small) few, rows)
 
-  pub cut-alike : Alike piece (take 4589 piece)
+  cut-alike : Alike piece (take 4589 piece)
   unfolding front layout
   cut-alike =
       elim (bool? (layout .known)) [
@@ -123,6 +118,9 @@ module _ (piece : List ℕ) (s : Stated piece) (long : 4590 ≤ length piece) wh
                   ]
             ]
       ]
+
+pub longPieces : LongPieces
+longPieces piece s long = cut-alike piece s (omega (arith, long))
 
 -- the first bytes of a stated piece are judged as the whole piece, and told by the same line
 pub cut-verdict : (piece : List ℕ) → Stated piece → judgedAs (take 4589 piece) ≡ judgedAs piece

@@ -20,7 +20,7 @@ due-head rest h =
       | inr p ↦ absurd (omega (arith, h, p .1))
     ]
 
-due-stated : (rest : List ℕ) → 5 ≤ length rest → dueOf rest ≡ statedLength rest
+pub due-stated : (rest : List ℕ) → 5 ≤ length rest → dueOf rest ≡ statedLength rest
 due-stated rest h =
     elim (ltb? (length rest) 5) [
       | inl p ↦ absurd (omega (arith, h, p .1))

@@ -5,5 +5,6 @@ pub mod DueLaws
 pub mod ClosingLaws
 pub mod StreamLaws
 pub mod SafeLaws
+pub mod CallsLaws
 pub mod LengthLaws
 pub mod PiecesLaws

@@ -8,7 +8,7 @@ use mathlib.Core.Bool.{Bool}
 use mathlib.Core.List.{List, [], _∷_, _++_, flatten, map, append-assoc, append-nil}
 use lib.Dec.{ltb}
 use lib.ListN.{length, take, length-append}
-use borrow.Author.Tests.{lt-ltb}
+use borrow.Author.Tests.{lt-ltb, ltb-true}
 use Rattle.printing.specs.Appended.{Appended}
 use Rattle.printing.proofs.AppendLaws.{noSecondText, then, as-text}
 use Rattle.printing.proofs.LongestLaws.{whole}
@@ -19,7 +19,7 @@ use Rattle.reporting.specs.Report.{linesFrom, schedulableIn, lateIn, ref
 use Rattle.reporting.specs.Streaming.{begun, storeSize, Behind, linesMore, GoesOn, NoSecondTold, closingBy, linesRoom, Call, pieceOf, textOf, Follow, lastOf, AnyPieces, ClosedEarly}
 use Rattle.reporting.specs.Longest.{ReportFits}
 use Rattle.reporting.proofs.CuttingLaws.{is-cut, stated-front, tables-more, left-more, none-whole}
-use Rattle.reporting.proofs.DueLaws.{closed-low}
+use Rattle.reporting.proofs.DueLaws.{due-stated, closed-low}
 use Rattle.reporting.proofs.StreamLaws.{lines-both, behind-none}
 use Rattle.reporting.proofs.LengthLaws.{linesFit, closingFits}
 
@@ -108,9 +108,10 @@ reportFits bytes =
     omega (arith, length-append (linesFrom 0 tables) (closingText bytes), linesFit [] bytes, closingFits end)
 
 -- a stated length below 5 stays one
-pub closedEarly : ClosedEarly
+stays-closed : (old bytes : List ℕ) (report : Report) (store more : List ℕ) → Behind old bytes report store → report .due < report .come →
+    linesFrom 0 (tablesIn bytes) ++ closingBy report ≡ reportOf (bytes ++ more)
 unfolding reportOf reportBy
-closedEarly old bytes report store more b h =
+stays-closed old bytes report store more b h =
     let left = leftIn bytes in
     let low = closed-low left (is-cut bytes .closed) (omega (arith, h, b .come, b .due)) in
     let stays : ¬ Begins (left ++ more) =
@@ -126,6 +127,16 @@ closedEarly old bytes report store more b h =
     report-is b
     ∙ ap (λ (tables : List (List ℕ)). reportBy tables (isBroken bytes)) same
     ∙ ap (reportBy (tablesIn (bytes ++ more))) broken
+
+pub closedEarly : ClosedEarly
+closedEarly =
+    record {
+      means = λ old bytes report store b h.
+          closed-low (leftIn bytes) (is-cut bytes .closed) (omega (arith, ltb-true (report .due) (report .come) h, b .come, b .due));
+      told = λ old bytes report store b h k.
+          lt-ltb (report .due) (report .come) (omega (arith, b .come, b .due, due-stated (leftIn bytes) h, h, k));
+      same = λ old bytes report store more b h. stays-closed old bytes report store more b (ltb-true (report .due) (report .come) h);
+    }
 
 -- what is kept is determined
 same-report : (a b : Report) → a .schedulable ≡ b .schedulable → a .late ≡ b .late → a .refused ≡ b .refused → a .come ≡ b .come →

@@ -15,7 +15,7 @@ use Rattle.printing.proofs.AppendLaws.{ends-within, part-length}
 use Rattle.reporting.specs.declared.Report.{Report}
 use Rattle.reporting.specs.declared.Told.{Told}
 use Rattle.reporting.specs.Cutting.{tablesIn, leftIn, AllStated}
-use Rattle.reporting.specs.Streaming.{begun, storeSize, Behind, GoesOn, Countable, countedIn}
+use Rattle.reporting.specs.Streaming.{begun, storeSize, Behind, GoesOn, Countable, CountableBegun, countedIn}
 use Rattle.reporting.proofs.CuttingLaws.{is-cut}
 use Rattle.reporting.proofs.StreamLaws.{behind-none, counted-tables, new-long, come-head, goes-none, goes-then}
 
@@ -150,13 +150,12 @@ module _ {more store₀ out₀ store out : List ℕ} {told₀ told : Told} {used
   going-all h =
       subst (λ (xs : List ℕ). GoesOn (told₀ .report) store₀ xs out₀ (told₀ .end) told store out) (take-all used more h) (g .goes)
 
+pub countableBegun : CountableBegun
+countableBegun store more room few =
+    record { old = store; bytes = []; behind = behind-none store room; few = omega (arith, few) }
+
 -- `report_text`: all bytes at once, from the beginning
 pub countable-begun : {report : Report} (store : List ℕ) (count : ℕ) → report ≡ begun → length store ≡ storeSize → count < 18446744073709551616 →
     Countable report store count
 countable-begun {report} store count e room few =
-    record {
-      old = store;
-      bytes = [];
-      behind = subst (λ (r : Report). Behind store [] r store) (sym e) (behind-none store room);
-      few = omega (arith, few);
-    }
+    subst (λ (r : Report). Countable r store count) (sym e) (countableBegun store count room few)

@@ -36,7 +36,7 @@ leftIn bytes = leftFrom (length bytes) bytes
 abbrev pub isBroken : List ℕ → Bool
 isBroken bytes = ltb 0 (length (leftIn bytes))
 
--- The same without a search. A table begins the bytes:
+-- The same without a search. A table begins the bytes. (That there are five follows from the rest; it is said because document 02 says it.)
 pub record Begins (rest : List ℕ) : Type 0 where
   pub head : 5 ≤ length rest
   pub low : 5 ≤ statedLength rest

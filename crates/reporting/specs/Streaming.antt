@@ -1,18 +1,23 @@
 -- A report told of its file piece by piece, cut anywhere: what is kept between two pieces, and that the text is the whole file's
--- (SPECIFICATION 13.12; document 02, L10, "Store no whole file."). The proofs are in proofs/StreamLaws.antt and proofs/PiecesLaws.antt.
+-- (SPECIFICATION 13.12; document 02, L10, "Store no whole file."). The proofs are in proofs/SafeLaws.antt, CallsLaws.antt,
+-- PiecesLaws.antt and CutLaws.antt.
 -- Assumes nothing.
 use Prim.Native.Nat.{ℕ, _+_, _*_, _≤_, _<_}
 use mathlib.Core.Path.{_≡_}
+use mathlib.Core.Bool.{Bool, true}
 use mathlib.Core.List.{List, [], _∷_, _++_, flatten, map}
 use lib.Dec.{ltb}
 use lib.ListN.{length, take}
 use Rattle.model.specs.Choice.{pick}
 use Rattle.tables.specs.Layout.{statedLength}
+use Rattle.tables.specs.declared.Refusal.{Refusal}
 use Rattle.answering.specs.declared.Verdict.{Verdict}
+use Rattle.answering.specs.declared.Verdict.the-variants.{Refused}
 use Rattle.printing.specs.Appended.{Appended, bytesAfter}
+use Rattle.report_lines.specs.Line.{judgedAs}
 use Rattle.reporting.specs.declared.Report.{Report}
 use Rattle.reporting.specs.declared.Told.{Told}
-use Rattle.reporting.specs.Cutting.{tablesIn, leftIn}
+use Rattle.reporting.specs.Cutting.{tablesIn, leftIn, Stated}
 use Rattle.reporting.specs.Report.{linesFrom, schedulableOne, lateOne, refusedOne, schedulableIn, lateIn, refusedIn, totalsLine, brokenLine, reportOf}
 
 -- these counts, and nothing of a table; and before the first byte
@@ -69,12 +74,16 @@ pub record GoesOn (report : Report) (store more out : List ℕ) (at : ℕ) (told
   pub behind : (old bytes : List ℕ) → Behind old bytes report store → Behind old (bytes ++ more) (told .report) kept
   pub lines : (old bytes : List ℕ) → Behind old bytes report store → Appended out at (linesMore bytes more) (told .end) written
 
--- bytes may come that are not too many to be counted
+-- so many bytes may come: with those that came before they are not too many to be counted
 pub record Countable (report : Report) (store : List ℕ) (more : ℕ) : Type 0 where
   pub old : List ℕ
   pub bytes : List ℕ
   pub behind : Behind old bytes report store
   pub few : length bytes + more < 18446744073709551616
+
+-- It is so at the beginning, with any store, for any bytes that can be lent.
+abbrev pub CountableBegun : Type 0
+CountableBegun = (store : List ℕ) (more : ℕ) → length store ≡ storeSize → more < 18446744073709551616 → Countable begun store more
 
 -- No second result satisfies it.
 abbrev pub NoSecondTold : Type 0
@@ -134,8 +143,35 @@ AnyPieces =
     (old : List ℕ) (calls : List Call) → length old ≡ storeSize → Follow begun old calls →
     flatten (map textOf calls) ++ closingBy (lastOf begun calls) ≡ reportOf (flatten (map pieceOf calls))
 
--- Where a stated length below 5 has closed the report, the bytes that are still to come change nothing.
-abbrev pub ClosedEarly : Type 0
-ClosedEarly =
-    (old bytes : List ℕ) (report : Report) (store more : List ℕ) → Behind old bytes report store → report .due < report .come →
-    linesFrom 0 (tablesIn bytes) ++ closingBy report ≡ reportOf (bytes ++ more)
+-- Any pieces can be told so: whatever is kept, there are calls that follow, with those pieces.
+pub record Called (report : Report) (store : List ℕ) (pieces : List (List ℕ)) : Type 0 where
+  pub calls : List Call
+  pub same : map pieceOf calls ≡ pieces
+  pub follow : Follow report store calls
+
+abbrev pub AllCalled : Type 0
+AllCalled = (report : Report) (store : List ℕ) (pieces : List (List ℕ)) → Called report store pieces
+
+-- "a stated length below 5 .. closes the report": less is due than has come
+abbrev pub closedBy : Report → Bool
+closedBy report = ltb (report .due) (report .come)
+
+-- The report is closed so just where five bytes of the table at hand have come, and they state less than 5; and then the bytes that are
+-- still to come change nothing.
+pub record ClosedEarly : Type 0 where
+  pub means : (old bytes : List ℕ) (report : Report) (store : List ℕ) → Behind old bytes report store → closedBy report ≡ true →
+      (5 ≤ length (leftIn bytes)) × (statedLength (leftIn bytes) < 5)
+  pub told : (old bytes : List ℕ) (report : Report) (store : List ℕ) → Behind old bytes report store → 5 ≤ length (leftIn bytes) →
+      statedLength (leftIn bytes) < 5 → closedBy report ≡ true
+  pub same : (old bytes : List ℕ) (report : Report) (store more : List ℕ) → Behind old bytes report store → closedBy report ≡ true →
+      linesFrom 0 (tablesIn bytes) ++ closingBy report ≡ reportOf (bytes ++ more)
+
+-- "a longer piece .. is refused as its first bytes deserve": a piece that has more bytes than the store is refused, and so are, alike, the
+-- bytes of it that the store holds
+pub record Alike (piece first : List ℕ) : Type 0 where
+  pub refusal : Refusal
+  pub one : judgedAs piece ≡ Refused refusal
+  pub other : judgedAs first ≡ Refused refusal
+
+abbrev pub LongPieces : Type 0
+LongPieces = (piece : List ℕ) → Stated piece → storeSize < length piece → Alike piece (take storeSize piece)

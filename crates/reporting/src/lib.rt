@@ -9,7 +9,7 @@ ghost use Rattle.tables.specs.Layout.{statedLength};
 ghost use Rattle.printing.specs.Appended.{Appended};
 ghost use Rattle.report_lines.specs.Line.{judgedAs, lineOf};
 ghost use Rattle.reporting.specs.Report.{reportOf};
-ghost use Rattle.reporting.specs.Streaming.{begun, gatheredTo, freshWith, countedIn, countedBy, GoesOn, Countable, closingBy};
+ghost use Rattle.reporting.specs.Streaming.{begun, gatheredTo, freshWith, countedIn, countedBy, GoesOn, Countable, closedBy, closingBy};
 use printing::append;
 use printing::append_with_number;
 use printing::line_with_number;
@@ -177,7 +177,7 @@ fn fresh(schedulable: u64, late: u64, refused: u64) -> Report
 
 // Has a stated length below 5 closed the report? What is still to come changes nothing then.
 pub fn is_closed(report: Report) -> bool
-    ensures { λ r. ⌜ r ≡ ltb (report .due) (report .come) ⌝ }
+    ensures { λ r. ⌜ r ≡ closedBy report ⌝ }
 {
     report.due < report.come
 }

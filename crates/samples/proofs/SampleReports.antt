@@ -19,8 +19,7 @@ use Rattle.answering.specs.declared.Verdict.the-variants.{Refused, Schedulable,
 use Rattle.response.specs.Analysis.{answerOf}
 use Rattle.response.specs.Outcome.{verdictOf}
 use Rattle.printing.specs.Text.{bytesOf, decimalOf}
-use Rattle.utilisation.specs.Bound.{boundOf}
-use Rattle.utilisation.proofs.BoundLaws.{right, right-means}
+use Rattle.utilisation.proofs.BoundLaws.{firstBounds, moreBounds}
 use Rattle.multiples.specs.declared.Multiple.the-variants.{Number, Over}
 use Rattle.multiples.specs.Multiples.{isMultiple, productOf, leastMultiple, shown}
 use Rattle.multiples.proofs.DivisorLaws.{gcd-zero, gcd-remainder}
@@ -30,14 +29,6 @@ use Rattle.report_lines.proofs.LineLaws.{figures-are, line-is}
 use Rattle.reporting.specs.Cutting.{tablesFrom, leftFrom}
 use Rattle.reporting.specs.Report.{linesFrom, reportOf}
 use Rattle.samples.specs.ReportSamples.{primes, file, fileLines, edges, ReportSample, ReportEdges}
-
-bound-two : boundOf 2 ≡ 828427
-unfolding right
-bound-two = sym (right-means 1 828427 refl)
-
-bound-three : boundOf 3 ≡ 779763
-unfolding right
-bound-three = sym (right-means 2 779763 refl)
 
 -- searched for
 sixty : leastMultiple (4 ∷ 6 ∷ 10 ∷ []) ≡ 60
@@ -60,21 +51,21 @@ first : bytesOf "0 schedulable utilisation 883334 bound 779763 hyperperiod 60\n"
 unfolding tabulate gather sumOf largestOf firstFrom firstOf layoutFor unless orElse firstIn fieldsCheck countTest lengthsAgree priorityFits recordTest rowAfter rowTest countsCheck recordCheck rowCheck headCheck recordsCheck rowsCheck bodyCheck roomCheck tableCheckSpanning demand ceiling blockingOf answerOf verdictOf decimalOf
 first =
     ap (λ (text : List ℕ). decimalOf 0 ++ text)
-    (figures-are (bytesOf " schedulable") fifth {used = 883334} {multiple = Number 60} refl (sym bound-three) (ap shown (sym sixty)))
+    (figures-are (bytesOf " schedulable") fifth {used = 883334} {multiple = Number 60} refl (sym (moreBounds .0)) (ap shown (sym sixty)))
     ∙ line-is 0 fifth {v = Schedulable} refl
 
 second : bytesOf "1 late utilisation 348334 bound 828427 hyperperiod 3000\n" ≡ lineOf 1 late
 unfolding tabulate gather sumOf largestOf firstFrom firstOf layoutFor unless orElse firstIn fieldsCheck countTest lengthsAgree priorityFits recordTest rowAfter rowTest countsCheck recordCheck rowCheck headCheck recordsCheck rowsCheck bodyCheck roomCheck tableCheckSpanning demand ceiling blockingOf answerOf verdictOf decimalOf
 second =
     ap (λ (text : List ℕ). decimalOf 1 ++ text)
-    (figures-are (bytesOf " late") late {used = 348334} {multiple = Number 3000} refl (sym bound-two) (ap shown (sym three-thousand)))
+    (figures-are (bytesOf " late") late {used = 348334} {multiple = Number 3000} refl (sym (firstBounds .1)) (ap shown (sym three-thousand)))
     ∙ line-is 1 late {v = Late (at 1)} refl
 
 third : bytesOf "2 schedulable utilisation 6 bound 779763 hyperperiod over\n" ≡ lineOf 2 primes
 unfolding tabulate gather sumOf largestOf firstFrom firstOf layoutFor unless orElse firstIn fieldsCheck countTest lengthsAgree priorityFits recordTest rowAfter rowTest countsCheck recordCheck rowCheck headCheck recordsCheck rowsCheck bodyCheck roomCheck tableCheckSpanning demand ceiling blockingOf answerOf verdictOf decimalOf
 third =
     ap (λ (text : List ℕ). decimalOf 2 ++ text)
-    (figures-are (bytesOf " schedulable") primes {used = 6} {multiple = Over} refl (sym bound-three) (ap shown (sym large)))
+    (figures-are (bytesOf " schedulable") primes {used = 6} {multiple = Over} refl (sym (moreBounds .0)) (ap shown (sym large)))
     ∙ line-is 2 primes {v = Schedulable} refl
 
 fourth : bytesOf "3 refused 5 at 31\n" ≡ lineOf 3 refused

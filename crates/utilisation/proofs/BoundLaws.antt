@@ -14,7 +14,7 @@ use Rattle.model.specs.Choice.{both}
 use Rattle.model.specs.Search.{firstFrom}
 use Rattle.model.proofs.Tests.{clash, both-true}
 use Rattle.model.proofs.Search.{Found, found, missed}
-use Rattle.utilisation.specs.Bound.{Passes, Largest, isOver, boundOf, BoundRight, NoSecondBound, FirstBounds}
+use Rattle.utilisation.specs.Bound.{Passes, Largest, isOver, boundOf, BoundRight, NoSecondBound, FirstBounds, MoreBounds}
 use Rattle.utilisation.proofs.TableLaws.{every, at-entry}
 
 -- a number that passes is smaller than one that is over
@@ -95,7 +95,7 @@ passed k v = leb ((1000000 * suc k + v) ^ suc k) (2 * (1000000 * suc k) ^ suc k)
 unfoldable pub right : ℕ → ℕ → Bool
 right k v = both (passed k v) (isOver (suc k) (v + 1))
 
-pub right-means : (k v : ℕ) → right k v ≡ true → v ≡ boundOf (suc k)
+right-means : (k v : ℕ) → right k v ≡ true → v ≡ boundOf (suc k)
 unfolding right
 right-means k v p =
     let tests = both-true (passed k v) (isOver (suc k) (v + 1)) p in
@@ -106,6 +106,10 @@ right-means k v p =
 pub firstBounds : FirstBounds
 unfolding right
 firstBounds = (sym (right-means 0 1000000 refl), sym (right-means 1 828427 refl))
+
+pub moreBounds : MoreBounds
+unfolding right
+moreBounds = (sym (right-means 2 779763 refl), sym (right-means 199 694349 refl))
 
 -- an entry of a table of 200 at each of which the test passes
 pub entry-is : (entries : List ℕ) → length entries ≡ 200 → every right 0 entries ≡ true → (n : ℕ) → (1 ≤ n) × (n ≤ 200) →

@@ -3,6 +3,7 @@
 use Prim.Native.Nat.{ℕ, suc, _+_, _*_, _-_, _≤_, _<_}
 use native.Mathlib.Omega.{arith}
 use native.Mathlib.Nat.{le-of-lt, div-mul-le-self, mul-pos, mul-le-mul-left, mul-le-mul-right}
+use mathlib.Core.Path.{refl}
 use mathlib.Core.List.{List, [], _∷_}
 use lib.ListN.{length}
 use Rattle.model.specs.Lists.{sumOf}
@@ -11,7 +12,7 @@ use Rattle.equation.proofs.RoundingLaws.{enough}
 use Rattle.tables.specs.Fields.{taskCountField, periodField}
 use Rattle.tables.specs.Layout.{taskCount}
 use Rattle.tables.proofs.LayoutLaws.{task-is, tasks-count}
-use Rattle.utilisation.specs.Utilisation.{shareOf, utilisationOf, periodsProduct, exactOver, PeriodsPositive, UtilisationRight, TableTasks}
+use Rattle.utilisation.specs.Utilisation.{shareOf, utilisationOf, periodsProduct, exactOver, PeriodsPositive, UtilisationRight, TableTasks, PairDrawn}
 
 -- one share is less than its exact value plus one
 share-below : (cost period : ℕ) → 1 ≤ period → suc (shareOf cost period * period) ≤ 1000000 * cost + period
@@ -71,3 +72,7 @@ tableTasks bytes right = (
       rw (task-is bytes i inside) (right .records i inside periodField .low),
   omega (arith, tasks-count bytes, right .head .counts taskCountField .low),
 )
+
+pub pairDrawn : PairDrawn
+unfolding exactOver periodsProduct sumOf
+pairDrawn = (refl, refl, refl)

@@ -35,3 +35,7 @@ NoSecondBound = (n v w : ℕ) → Largest n v → Largest n w → v ≡ w
 -- "entry 1 is 1,000,000 and entry 2 is 828,427"
 abbrev pub FirstBounds : Type 0
 FirstBounds = (boundOf 1 ≡ 1000000) × (boundOf 2 ≡ 828427)
+
+-- and two more: that of the example's three tasks, and the last
+abbrev pub MoreBounds : Type 0
+MoreBounds = (boundOf 3 ≡ 779763) × (boundOf 200 ≡ 694349)

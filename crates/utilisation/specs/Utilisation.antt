@@ -1,6 +1,7 @@
 -- How much time a table's tasks ask for (SPECIFICATION 13.12; document 02, L10).
 -- Assumes nothing.
 use Prim.Native.Nat.{ℕ, _+_, _*_, _≤_, _<_}
+use mathlib.Core.Path.{_≡_}
 use mathlib.Core.List.{List, [], _∷_}
 use lib.ListN.{length}
 use Rattle.model.specs.Lists.{sumOf}
@@ -44,3 +45,13 @@ pub record UtilisationRight : Type 0 where
 -- An accepted table has such tasks, and one at least.
 abbrev pub TableTasks : Type 0
 TableTasks = (bytes : List ℕ) → TableRight bytes → PeriodsPositive (tasksOf bytes) × (1 ≤ length (tasksOf bytes))
+
+-- Drawn: 1,000,000 / 3 and 3,000,000 / 7 are 16,000,000 / 21 together, which is 761,904 and 16 / 21; rounded up they are 333,334 and 428,572.
+abbrev pub pair : List Task
+pair =
+    record { priority = 2; period = 3; cost = 1; deadline = 3; earliest = 0; latest = 0 }
+    ∷ record { priority = 1; period = 7; cost = 3; deadline = 7; earliest = 0; latest = 0 }
+    ∷ []
+
+abbrev pub PairDrawn : Type 0
+PairDrawn = (exactOver pair ≡ 16000000) × (periodsProduct pair ≡ 21) × (utilisationOf pair ≡ 761906)

@@ -1,6 +1,8 @@
 -- `multiples::hyperperiod` meets its contract: each turn joins the period of one task more.
 -- Assumes nothing.
 use Prim.Native.Nat.{_-_}
+use mathlib.Core.Path.{sym, _∙_}
+use borrow.Author.Tests.{ltb-true, ltb-false}
 use native.Mathlib.Omega.{arith}
 use borrow.Author.Needs.{needs}
 use Rattle.tables.proofs.WalkLaws.{record-there, next-near, period-is, period-within}
@@ -38,11 +40,14 @@ word-requires c κs = omega (arith, record-there (c .before .loop .inv .walk) (c
 joined-requires : tie.Need-joined-requires Inv-loop μ-loop
 joined-requires c κs = omega (arith, c .before .before .loop .inv .small, c .before .before .loop .inv .least .positive, period-is (c .before .before .loop .inv .walk) (c .before .loop-test .taken) (c .word .ensures), period-within (c .before .before .loop .inv .walk) (c .before .loop-test .taken))
 
+is-over-requires : tie.Need-is-over-requires Inv-loop μ-loop
+is-over-requires c κs = search needs
+
 returns : tie.Need-returns Inv-loop μ-loop
-returns c = joining-over (c .before .before .before .before .loop .inv) (c .before .before .before .loop-test .taken) (period-is (c .before .before .before .before .loop .inv .walk) (c .before .before .before .loop-test .taken) (c .before .before .word .ensures)) (c .before .joined .ensures) (c .if1 .taken)
+returns c = joining-over (c .before .before .before .before .before .loop .inv) (c .before .before .before .before .loop-test .taken) (period-is (c .before .before .before .before .before .loop .inv .walk) (c .before .before .before .before .loop-test .taken) (c .before .before .before .word .ensures)) (c .before .before .joined .ensures) (ltb-true _ _ (sym (c .before .is-over .ensures) ∙ c .if1 .taken))
 
 add-at : tie.Need-add-at Inv-loop μ-loop
-add-at c = omega (arith, next-near (c .before .before .before .before .before .loop .inv .walk) (c .before .before .before .before .loop-test .taken))
+add-at c = omega (arith, next-near (c .before .before .before .before .before .before .loop .inv .walk) (c .before .before .before .before .before .loop-test .taken))
 
 add-i : tie.Need-add-i Inv-loop μ-loop
 add-i c = omega arith
@@ -51,7 +56,7 @@ loop-less : tie.Need-loop-less Inv-loop μ-loop
 loop-less c = omega arith
 
 loop-again : tie.Need-loop-again Inv-loop μ-loop
-loop-again c = joining-more (c .before .before .before .before .before .loop .inv) (c .before .before .before .before .loop-test .taken) (period-is (c .before .before .before .before .before .loop .inv .walk) (c .before .before .before .before .loop-test .taken) (c .before .before .before .word .ensures)) (c .before .before .joined .ensures) (c .before .if1 .left)
+loop-again c = joining-more (c .before .before .before .before .before .before .loop .inv) (c .before .before .before .before .before .loop-test .taken) (period-is (c .before .before .before .before .before .before .loop .inv .walk) (c .before .before .before .before .before .loop-test .taken) (c .before .before .before .before .word .ensures)) (c .before .before .before .joined .ensures) (ltb-false _ _ (sym (c .before .before .is-over .ensures) ∙ c .before .if1 .left))
 
 returns-2 : tie.Need-returns-2 Inv-loop μ-loop
 returns-2 c = joining-all (c .before .loop .inv) (c .loop-test .left)
@@ -70,6 +75,7 @@ hyperperiod-spec =
     add-word
     word-requires
     joined-requires
+    is-over-requires
     returns
     add-at
     add-i
