@@ -3,7 +3,7 @@
 use Prim.Native.Nat.{ℕ, zero, suc, _+_, _*_, _/_, _%_, _≤_, _∣_}
 use native.Mathlib.Omega.{arith}
 use native.Mathlib.Decide.{decLe}
-use native.Mathlib.Nat.{le-trans, div-le-self, mul-le-mul, mul-pos, mul-assoc, mul-comm, mul-div-cancel', eq-of-mul-eq-mul-left, mod-lt, pos-of-dvd-of-pos, dvd-trans, dvd-mul-left, dvd-mul-right, dvd-mul-left-of-dvd, dvd-mod-iff, dvd-antisymm, mod-eq-zero-of-dvd, dvd-of-mod-eq-zero, dvd-of-mul-dvd-mul-right, mul-dvd-mul-left}
+use native.Mathlib.Nat.{le-trans, div-le-self, mul-le-mul, mul-pos, mul-assoc, mul-comm, mul-div-cancel', eq-of-mul-eq-mul-left, mod-lt, pos-of-dvd-of-pos, dvd-trans, dvd-mul-left, dvd-mul-right, dvd-mul-left-of-dvd, dvd-mod-iff, dvd-antisymm, mod-eq-zero-of-dvd, dvd-of-mod-eq-zero, dvd-of-mul-dvd-mul-right, mul-dvd-mul-left, dvd-refl, one-dvd}
 use mathlib.Core.Path.{_≡_, refl, sym, _∙_, ap, subst}
 use mathlib.Core.Bool.{true}
 use mathlib.Core.List.{List, [], _∷_, _++_}
@@ -179,6 +179,19 @@ module _ (a b g : ℕ) (one : 1 ≤ a) (two : 1 ≤ b) (gcd : GreatestDivisor a 
 
   pub joined-is : a / g * b ≡ leastMultiple (a ∷ (b ∷ []))
   joined-is = quotient-least (leastMultiple (a ∷ (b ∷ []))) (pair-right a b one two)
+
+-- without Euclid's rule: the first number, and one that divides the other
+pub joined-first : (b : ℕ) → 1 ≤ b → b ≡ leastMultiple (1 ∷ (b ∷ []))
+joined-first b two =
+    let gcd : GreatestDivisor 1 b 1 = record { first = dvd-refl 1; second = one-dvd b; greatest = λ d p q. p } in
+    let e : b ≡ 1 * b = omega arith in
+    e ∙ joined-is 1 b 1 (omega arith) two gcd
+
+pub joined-divided : (a b : ℕ) → 1 ≤ a → 1 ≤ b → a % b ≡ 0 → a ≡ leastMultiple (a ∷ (b ∷ []))
+joined-divided a b one two e =
+    let h : b ∣ a = dvd-of-mod-eq-zero b e in
+    let gcd : GreatestDivisor a b b = record { first = h; second = dvd-refl b; greatest = λ d p q. q } in
+    sym (mul-div-cancel' b h) ∙ mul-comm b (a / b) ∙ joined-is a b b one two gcd
 
 -- which fits 64 bits, where the numbers are not too large
 pub joined-small : (a b g : ℕ) → a ≤ 1000000000000 → b ≤ 1000000 → a / g * b ≤ 1000000000000000000

@@ -29,14 +29,22 @@ pub fn gcd(a: u64, b: u64) -> u64
     if b == 0 { a } else { gcd(b, a % b) }
 }
 
-// The least common multiple of two: that of the periods before, and one period more. The divide comes first, so that nothing wraps.
+// The least common multiple of two: that of the periods before, and one period more. Before the first period it is 1, and one that divides
+// what is there changes nothing: neither needs Euclid's rule. The divide comes first, so that nothing wraps.
 fn joined(before: u64, period: u32) -> u64
     requires { ⌜ (1 ≤ before) × (before ≤ 1000000000000) ⌝ }
     requires { ⌜ (1 ≤ period) × (period ≤ 1000000) ⌝ }
     ensures { λ r. ⌜ r ≡ leastMultiple (before ∷ (period ∷ [])) ⌝ }
 {
     let next = period as u64;
-    before / gcd(before, next) * next
+    if before == 1 {
+        return next;
+    }
+    let rest = before % next;
+    if rest == 0 {
+        return before;
+    }
+    before / gcd(next, rest) * next
 }
 
 // "above 10^12 print "over"": 10^12 itself is a number.
