@@ -88,7 +88,15 @@ static uint64_t hyperperiod(const uint8_t *table)
     for (size_t i = 0; i < table[3]; i++, record += record_bytes(table)) {
         uint64_t T = big_endian_32(record + 1);
 
-        common = common / common_divisor(common, T) * T;
+        if (common == 1) {
+            common = T;
+            continue;
+        }
+        uint64_t rest = common % T;
+
+        if (rest == 0)
+            continue;
+        common = common / common_divisor(T, rest) * T;
         if (common > LARGEST_MULTIPLE)
             return 0;
     }
