@@ -166,8 +166,8 @@ pub record ClosedEarly : Type 0 where
   pub same : (old bytes : List ℕ) (report : Report) (store more : List ℕ) → Behind old bytes report store → closedBy report ≡ true →
       linesFrom 0 (tablesIn bytes) ++ closingBy report ≡ reportOf (bytes ++ more)
 
--- "a longer piece .. is refused as its first bytes deserve": a piece that has more bytes than the store is refused, and so are, alike, the
--- bytes of it that the store holds
+-- A piece that has more bytes than the store is refused, and so are, alike, the bytes of it that the store holds: its first bytes tell why
+-- (SPECIFICATION 13.12, 10).
 pub record Alike (piece first : List ℕ) : Type 0 where
   pub refusal : Refusal
   pub one : judgedAs piece ≡ Refused refusal
