@@ -2,9 +2,9 @@
 -- Assumes nothing.
 use Prim.Native.Nat.{ℕ, _+_, _≤_, _<_}
 use native.Mathlib.Omega.{arith}
-use mathlib.Core.Path.{_≡_, refl, ap}
+use mathlib.Core.Path.{refl, ap}
 use mathlib.Core.Logic.{inl, inr}
-use mathlib.Core.List.{List, [], _∷_, _++_, map}
+use mathlib.Core.List.{List, [], _∷_}
 use lib.ListN.{length, take}
 use Rattle.model.specs.Lists.{tabulate}
 use Rattle.model.proofs.Lists.{length-tabulate}
@@ -14,7 +14,7 @@ use Rattle.printing.specs.Appended.{Appended, endAfter, bytesAfter}
 use Rattle.report_lines.specs.Line.{judgedAs, lineOf}
 use Rattle.reporting.specs.declared.Report.{Report}
 use Rattle.reporting.specs.declared.Told.{Told}
-use Rattle.reporting.specs.Streaming.{begun, gatheredTo, storeSize, GoesOn, countedBy, countedIn, linesRoom, Call, Called, AllCalled}
+use Rattle.reporting.specs.Streaming.{gatheredTo, GoesOn, countedBy, countedIn, linesRoom, Call, Called, AllCalled}
 use Rattle.reporting.proofs.StreamLaws.{goes-pending, goes-headed, goes-ended, goes-none, goes-then}
 
 -- a result that goes on

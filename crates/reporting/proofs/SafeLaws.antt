@@ -15,7 +15,7 @@ use Rattle.printing.proofs.AppendLaws.{ends-within, part-length}
 use Rattle.reporting.specs.declared.Report.{Report}
 use Rattle.reporting.specs.declared.Told.{Told}
 use Rattle.reporting.specs.Cutting.{tablesIn, leftIn, AllStated}
-use Rattle.reporting.specs.Streaming.{begun, storeSize, Behind, GoesOn, Countable, CountableBegun, countedIn}
+use Rattle.reporting.specs.Streaming.{begun, storeSize, GoesOn, Countable, CountableBegun, countedIn}
 use Rattle.reporting.proofs.CuttingLaws.{is-cut}
 use Rattle.reporting.proofs.StreamLaws.{behind-none, counted-tables, new-long, come-head, goes-none, goes-then}
 

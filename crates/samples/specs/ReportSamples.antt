@@ -7,11 +7,19 @@ use mathlib.Core.Path.{_≡_}
 use mathlib.Core.List.{List, [], _∷_, _++_, map}
 use lib.ListN.{replicate}
 use Rattle.encoding.specs.Bytes.{joined}
-use Rattle.encoding.specs.Examples.{fifth, late, refused}
+use Rattle.encoding.specs.Examples.{fifth, refused}
 use Rattle.printing.specs.Text.{bytesOf}
 use Rattle.reporting.specs.Report.{reportOf}
 
--- (T, C, D): (999961, 1, 999961), (999979, 1, 999979), (999983, 1, 999983). The periods are primes.
+-- (T, C, D): (1, 1, 1), (1000000, 1, 1000000). The first task takes all the time that there is.
+abbrev pub full : List ℕ
+full =
+    1 ∷ 0 ∷ 39 ∷ 2 ∷ 0
+    ∷ 2 ∷ 0 ∷ 0 ∷ 0 ∷ 1 ∷ 0 ∷ 0 ∷ 0 ∷ 1 ∷ 0 ∷ 0 ∷ 0 ∷ 1 ∷ 0 ∷ 0 ∷ 0 ∷ 0
+    ∷ 1 ∷ 0 ∷ 15 ∷ 66 ∷ 64 ∷ 0 ∷ 0 ∷ 0 ∷ 1 ∷ 0 ∷ 15 ∷ 66 ∷ 64 ∷ 0 ∷ 0 ∷ 0 ∷ 0
+    ∷ []
+
+-- (999961, 1, 999961), (999979, 1, 999979), (999983, 1, 999983). The periods are primes.
 abbrev pub primes : List ℕ
 primes =
     1 ∷ 0 ∷ 56 ∷ 3 ∷ 0
@@ -20,14 +28,14 @@ primes =
     ∷ 1 ∷ 0 ∷ 15 ∷ 66 ∷ 47 ∷ 0 ∷ 0 ∷ 0 ∷ 1 ∷ 0 ∷ 15 ∷ 66 ∷ 47 ∷ 0 ∷ 0 ∷ 0 ∷ 0
     ∷ []
 
--- four tables of examples/ and two bytes more
+-- the four tables of examples/term.tables and two bytes more
 abbrev pub file : List ℕ
-file = fifth ++ (late ++ (primes ++ (refused ++ (97 ∷ 98 ∷ []))))
+file = fifth ++ (full ++ (primes ++ (refused ++ (97 ∷ 98 ∷ []))))
 
 abbrev pub fileLines : List String
 fileLines =
     "0 schedulable utilisation 883334 bound 779763 hyperperiod 60\n"
-    ∷ "1 late utilisation 348334 bound 828427 hyperperiod 3000\n"
+    ∷ "1 late utilisation 1000001 bound 828427 hyperperiod 1000000\n"
     ∷ "2 schedulable utilisation 6 bound 779763 hyperperiod over\n"
     ∷ "3 refused 5 at 31\n"
     ∷ "schedulable 2 late 1 refused 1\n"
