@@ -4510,6 +4510,10 @@ HYPERPERIODS = [
     (tuple(range(999801, 1000001)), "over"),
 ]
 
+# Periods whose least common multiple is 10^12: 5^12 divides one of them, which is too long, and the
+# table is refused for it. The second and third have a task more.
+TEN_TO_TWELVE = [(4096, 244140625), (10 ** 12 // 4096, 4096, 1), (1000, 4096, 244140625)]
+
 # Shares are rounded up one by one; the last two sums are above 2^32 and near 2^48.
 UTILISATIONS = [
     ([(3, 1, 3)], 333334), ([(3, 1, 3)] * 3, 1000002), ([(7, 7, 7)], 1000000),
@@ -4640,6 +4644,7 @@ def made_reports():
         yield "broken-%s-behind" % name, term[0] + term[1] + end
     yield "refusals", b"".join(refused_tables())
     yield "hyperperiods", b"".join(light_table(periods) for periods, _ in HYPERPERIODS)
+    yield "ten-to-twelve", b"".join(light_table(periods) for periods in TEN_TO_TWELVE)
     yield "utilisations", b"".join(table_of(*entries, version=3) for entries, _ in UTILISATIONS)
     yield "counts", b"".join(counted_tables())
     yield "versions", b"".join(bytes([version]) + table_of(*FIFTH, version=2)[1:]
@@ -5644,6 +5649,14 @@ def check_numbers_of_report(checks):
     for periods, word in HYPERPERIODS:
         tasks = listed(*((period, 1, period) for period in periods))
         checks.same(hyperperiod_word(tasks), word, "hyperperiod of %r" % (periods[:9],))
+    # 10^12 itself would be printed; but each such table is refused for its long period.
+    for periods in TEN_TO_TWELVE:
+        tasks = listed(*((period, 1, period) for period in periods))
+        checks.same(hyperperiod_word(tasks), "1000000000000", "hyperperiod of %r" % (periods,))
+        long = next(place for place, period in enumerate(periods) if period > MILLION)
+        line = "0 refused 5 at %d" % (5 + 21 * long + 1)
+        checks.same(report_text(light_table(periods)).splitlines()[0], line,
+                    "report of the periods %r" % (periods,))
     generator = Generator(SEED + 20)
     for _ in range(300):
         periods = [generator.between(1, 30) for _ in range(generator.between(1, 4))]
