@@ -81,7 +81,7 @@ past old at more h =
     rw (none, take-all at old h, behind, append-nil old, append-nil old)
 
 -- taking from one list after the other
-take-both : (n : ℕ) (xs ys : List ℕ) → take n (xs ++ ys) ≡ take n xs ++ take (n - length xs) ys
+pub take-both : (n : ℕ) (xs ys : List ℕ) → take n (xs ++ ys) ≡ take n xs ++ take (n - length xs) ys
 take-both zero xs ys = rw (zero-sub (length xs))
 take-both (suc n) [] ys = rw (sub-zero (suc n))
 take-both (suc n) (x ∷ xs) ys = rw (suc-sub-suc n (length xs)) (ap (λ (zs : List ℕ). x ∷ zs) (take-both n xs ys))
@@ -160,7 +160,7 @@ copied-more {old} {at} {bytes} {count} {i} {new} c h =
     }
 
 -- no more is taken than there is
-take-min : (n : ℕ) (xs : List ℕ) → take (min (length xs) n) xs ≡ take n xs
+pub take-min : (n : ℕ) (xs : List ℕ) → take (min (length xs) n) xs ≡ take n xs
 take-min n xs =
     elim (decLe (length xs) n) [
       | yes h ↦

@@ -61,7 +61,7 @@ module _ (bytes : List ℕ) where
         unfolding countsCheck fieldsCheck firstIn unless orElse countTest
         counts = rw (n-test tasks n-fits, sym (ap (between 0 64) rows) ∙ m-fits)
 
-        head-lengths : lengthsAgree bytes ≡ false → Refused LengthsDiffer ≡ headCheck bytes
+        pub head-lengths : lengthsAgree bytes ≡ false → Refused LengthsDiffer ≡ headCheck bytes
         unfolding firstIn headCheck unless orElse
         head-lengths h = rw (le-leb 5 (length bytes) long, knows version, counts, h)
 

@@ -7,5 +7,6 @@ pub mod CheckLaws
 pub mod OrderLaws
 pub mod WalkLaws
 pub mod HeadLaws
+pub mod FirstLaws
 pub mod PlaceLaws
 pub mod ExampleLaws

@@ -6,3 +6,4 @@ pub mod Checks
 pub mod Meaning
 pub mod Deserved
 pub mod Examples
+pub mod FirstBytes
