@@ -46,6 +46,30 @@ void check_stayed(const char *slice, const uint32_t *words, size_t written)
             fail_word(slice, i, words[i], FILLER);
 }
 
+static int helpers_agree(uint64_t verdict)
+{
+    uint64_t code = verdict / 4294967296u, place = verdict % 4294967296u;
+    int refused = code >= 1 && code <= 11;
+
+    return ulmerascio_is_schedulable(verdict) == (code == 0)
+        && ulmerascio_is_late(verdict) == (code == 255)
+        && ulmerascio_is_open(verdict) == (code == 254)
+        && ulmerascio_is_pass(verdict) == (code == 0)
+        && ulmerascio_is_fail(verdict) == (code == 255)
+        && ulmerascio_is_wrong_use(verdict) == (code == 252 || code == 253)
+        && ulmerascio_is_refused(verdict) == refused
+        && ulmerascio_refusal(verdict) == (refused ? (int)code : 0)
+        && ulmerascio_place(verdict) == place;
+}
+
+void check_helpers(uint64_t verdict)
+{
+    if (!helpers_agree(verdict)) {
+        printf("c: the header takes verdict %llx apart wrongly\n", (unsigned long long)verdict);
+        exit(1);
+    }
+}
+
 /* ---- Tables of a file. */
 
 uint8_t *read_file(const char *name, size_t *length)

@@ -43,6 +43,9 @@ void compare_slice(const char *slice, const uint32_t *ours, const uint32_t *want
 /* Words past those that are written, and the guards, stay. */
 void check_stayed(const char *slice, const uint32_t *words, size_t written);
 
+/* The header's functions take the verdict apart as it is packed. */
+void check_helpers(uint64_t verdict);
+
 /* ---- Tables of a file. */
 
 /* One entry of the file of tables that "tests/reference.py make" writes. */

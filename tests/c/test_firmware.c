@@ -47,21 +47,12 @@ static const struct pair past_period = {"past the period", ulmerascio_analyse_pa
 static unsigned long calls, plays, taken, lists, passed;
 static unsigned long overlaps, overlaps_taken, repeated, undecided; /* of the second analysis */
 
-/* The header's functions take the verdict apart as it is packed. */
-static int helpers_agree(uint64_t verdict)
+/* The codes that such a call may return. */
+static int code_known(uint64_t verdict)
 {
-    uint64_t code = verdict / 4294967296u, place = verdict % 4294967296u;
-    int refused = code >= 1 && code <= 11;
+    uint64_t code = verdict / 4294967296u;
 
-    return ulmerascio_is_schedulable(verdict) == (code == 0)
-        && ulmerascio_is_late(verdict) == (code == 255)
-        && ulmerascio_is_open(verdict) == (code == 254)
-        && ulmerascio_is_pass(verdict) == (code == 0)
-        && ulmerascio_is_fail(verdict) == (code == 255)
-        && ulmerascio_is_refused(verdict) == refused
-        && ulmerascio_refusal(verdict) == (refused ? (int)code : 0)
-        && ulmerascio_place(verdict) == place
-        && (code == 0 || code == 254 || code == 255 || refused);
+    return code <= 11 || code == 254 || code == 255;
 }
 
 /* How many delays a record has. */
@@ -127,8 +118,9 @@ static int place_fits(struct table table, uint64_t verdict)
 
 static void check_verdict(struct table table, uint64_t verdict)
 {
-    if (!helpers_agree(verdict)) {
-        printf("c: the header takes verdict %llx apart wrongly\n", (unsigned long long)verdict);
+    check_helpers(verdict);
+    if (!code_known(verdict)) {
+        printf("c: verdict %llx has a code that it cannot have\n", (unsigned long long)verdict);
         exit(1);
     }
     if (!place_fits(table, verdict)) {
