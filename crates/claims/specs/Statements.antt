@@ -1,5 +1,5 @@
 -- What is claimed of the checker for the bytes of any table and any list of words (SPECIFICATION 13.7; document 02, L7), as named statements
--- about what `check_claims` answers (`Checked`, its contract). The proofs are in proofs/Claims.antt and Versions.antt.
+-- about what `check_claims` answers (`Checked`, its contract). The proofs are in proofs/Claims.antt, Versions.antt and FirstLaws.antt.
 -- Assumes nothing.
 use Prim.Native.Nat.{ℕ, _+_, _≤_, _<_}
 use mathlib.Core.Path.{_≡_}
@@ -11,6 +11,7 @@ use Rattle.model.specs.Tables.{Table, taskOf, loadsOf}
 use Rattle.tables.specs.Layout.{versionOf, taskCount, rowCount, tasksOf, tableOf}
 use Rattle.tables.specs.Meaning.{TableRight, RoomFor}
 use Rattle.tables.specs.Deserved.{Deserved}
+use Rattle.tables.specs.FirstBytes.{keptOf}
 use Rattle.equation.specs.Demand.{demand}
 use Rattle.equation.specs.declared.Start.{Start}
 use Rattle.runs.specs.Jobs.{NoDelay}
@@ -90,3 +91,8 @@ ClaimsInRuns =
 abbrev pub ClaimsInVersionThree : Type 0
 ClaimsInVersionThree =
     (bytes claims : List ℕ) → versionOf bytes ≡ 2 → taskCount bytes ≤ 32 → claimedOf (asThree bytes) claims ≡ claimedOf bytes claims
+
+-- "Bytes after the 4,590th are dropped, with the same refusals" (SPECIFICATION 13.13; document 02, L11): the claims for a table that came
+-- through an intake are judged as those for all its bytes.
+abbrev pub ClaimsOfFirstBytes : Type 0
+ClaimsOfFirstBytes = (bytes claims : List ℕ) → claimedOf (keptOf bytes) claims ≡ claimedOf bytes claims

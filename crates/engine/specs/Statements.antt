@@ -1,6 +1,6 @@
 -- What is claimed of the engine for the bytes of any table (SPECIFICATION 9; document 02, L1, L6 and L9), as named statements about what `play`
--- answers and leaves (`Played`, its contract). The proofs are in proofs/Claims.antt, that of the last one in
--- proofs/Versions.antt.
+-- answers and leaves (`Played`, its contract). The proofs are in proofs/Claims.antt, Versions.antt and
+-- FirstLaws.antt.
 -- Assumes nothing.
 use Prim.Native.Nat.{ℕ, _≤_, _<_}
 use mathlib.Core.Path.{_≡_}
@@ -14,6 +14,7 @@ use Rattle.tables.specs.declared.Refusal.the-variants.{NotPlayable}
 use Rattle.tables.specs.Layout.{versionOf, taskCount, rowCount, tasksOf, tableOf, priorityIn, earliestIn, latestIn}
 use Rattle.tables.specs.Meaning.{TableRight, RoomFor}
 use Rattle.tables.specs.Deserved.{Deserved}
+use Rattle.tables.specs.FirstBytes.{keptOf}
 use Rattle.machine.specs.Slices.{Kept, StartHeld, PlayLeaves}
 use Rattle.runs.specs.Schedule.{Schedule, LegalSchedule}
 use Rattle.runs.specs.Synchronous.{synchronous}
@@ -113,3 +114,9 @@ pub record PlayInVersionThree : Type 0 where
       (answers : ℕ) → playVerdict (asThree bytes) answers ≡ playVerdict bytes answers
   pub sameWords : (bytes : List ℕ) → versionOf bytes ≡ 2 → taskCount bytes ≤ 32 →
       (answers : List ℕ) → playWords (asThree bytes) answers ≡ playWords bytes answers
+
+-- "Bytes after the 4,590th are dropped, with the same refusals" (SPECIFICATION 13.13; document 02, L11): a table that came through an intake
+-- is played as all its bytes would be.
+pub record PlayOfFirstBytes : Type 0 where
+  pub sameVerdict : (bytes : List ℕ) (answers : ℕ) → playVerdict (keptOf bytes) answers ≡ playVerdict bytes answers
+  pub sameWords : (bytes answers : List ℕ) → playWords (keptOf bytes) answers ≡ playWords bytes answers

@@ -17,7 +17,8 @@ use Rattle.printing.proofs.AppendLaws.{take-min}
 use Rattle.intake.specs.declared.Condition.{Condition}
 use Rattle.intake.specs.declared.Condition.the-variants.{Ready, ShortStore, WrongFill}
 use Rattle.intake.specs.declared.Ended.the-variants as said
-use Rattle.intake.specs.Intake.{State, held, conditionFor, roomy, Takes, Answers}
+use Rattle.intake.specs.declared.Ended.{Ended}
+use Rattle.intake.specs.Intake.{State, held, conditionFor, roomy, fillAfter, Takes, Answers, Ends, NoSecondTake, NoSecondEnd, EdgesDrawn}
 
 isReady : Condition → Bool
 isReady Ready = true
@@ -108,3 +109,18 @@ module _ (store : List ℕ) (fill : ℕ) {condition : Condition} (fit : conditio
 
     pub answers-wrong : {answers rounds : List ℕ} → Answers (held store fill) answers rounds said.WrongFill answers rounds
     answers-wrong = record { endedIs = rw (sym is-wrong) refl; answersAre = rw (sym is-wrong) refl; roundsAre = rw (sym is-wrong) refl }
+
+pub noSecondTake : NoSecondTake
+noSecondTake state piece condition other left another a b = (a .conditionIs ∙ sym (b .conditionIs), a .stateIs ∙ sym (b .stateIs))
+
+pub noSecondEnd : NoSecondEnd
+noSecondEnd state answers rounds ended other fill otherFill answersNow answersToo roundsNow roundsToo a b =
+    let same = a .answered .endedIs ∙ sym (b .answered .endedIs) in (
+      same,
+      a .fillIs ∙ ap (λ (e : Ended). fillAfter e (state .fill)) same ∙ sym (b .fillIs),
+      a .answered .answersAre ∙ sym (b .answered .answersAre),
+      a .answered .roundsAre ∙ sym (b .answered .roundsAre),
+    )
+
+pub edgesDrawn : EdgesDrawn
+edgesDrawn = record { enough = refl; full = refl; longer = refl; short = refl; shortFirst = refl; wrong = refl; wrongInLonger = refl }

@@ -97,3 +97,25 @@ pub record Answers (state : State) (answers rounds : List ℕ) (ended : Ended) (
 pub record Ends (state : State) (answers rounds : List ℕ) (ended : Ended) (fill : ℕ) (answersNow roundsNow : List ℕ) : Type 0 where
   pub answered : Answers state answers rounds ended answersNow roundsNow
   pub fillIs : fill ≡ fillAfter ended (state .fill)
+
+-- No second result satisfies either: all that a call says and leaves is determined. The proofs are in proofs/StateLaws.antt.
+abbrev pub NoSecondTake : Type 0
+NoSecondTake =
+    (state : State) (piece : List ℕ) (condition other : Condition) (left another : State) → Takes state piece condition left →
+    Takes state piece other another → (condition ≡ other) × (left ≡ another)
+
+abbrev pub NoSecondEnd : Type 0
+NoSecondEnd =
+    (state : State) (answers rounds : List ℕ) (ended other : Ended) (fill otherFill : ℕ) (answersNow answersToo roundsNow roundsToo : List ℕ) →
+    Ends state answers rounds ended fill answersNow roundsNow → Ends state answers rounds other otherFill answersToo roundsToo →
+    (ended ≡ other) × (fill ≡ otherFill) × (answersNow ≡ answersToo) × (roundsNow ≡ roundsToo)
+
+-- At the edges: 4,590 bytes are enough, and all of them may be kept; one byte less is too short, whatever the fill is; and no more are kept.
+pub record EdgesDrawn : Type 0 where
+  pub enough : conditionFor 4590 0 ≡ Ready
+  pub full : conditionFor 4590 4590 ≡ Ready
+  pub longer : conditionFor 5000 4590 ≡ Ready
+  pub short : conditionFor 4589 0 ≡ ShortStore
+  pub shortFirst : conditionFor 4589 4591 ≡ ShortStore
+  pub wrong : conditionFor 4590 4591 ≡ WrongFill
+  pub wrongInLonger : conditionFor 5000 4591 ≡ WrongFill

@@ -5,3 +5,4 @@ pub mod ResultLaws
 pub mod Past
 pub mod Within
 pub mod Versions
+pub mod FirstLaws

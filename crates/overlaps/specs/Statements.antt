@@ -1,6 +1,6 @@
 -- What is claimed of the second analysis for the bytes of any table (SPECIFICATION 13.8; document 02, L8), as named statements about what
--- `analyse_past_period` answers and leaves (`PastOutcome`, its contract). The proofs are in proofs/Past.antt, EndLaws.antt, Within.antt
--- and Versions.antt.
+-- `analyse_past_period` answers and leaves (`PastOutcome`, its contract). The proofs are in proofs/Past.antt, EndLaws.antt, Within.antt,
+-- Versions.antt and FirstLaws.antt.
 -- Assumes nothing.
 use Prim.Native.Nat.{ℕ, _+_, _*_, _≤_, _<_}
 use mathlib.Core.Path.{_≡_}
@@ -12,6 +12,7 @@ use Rattle.model.specs.Tables.{openWord}
 use Rattle.tables.specs.Layout.{versionOf, taskCount, tableOf, periodIn, deadlineIn, earliestIn, latestIn}
 use Rattle.tables.specs.Meaning.{TableRightSpanning, RoomFor}
 use Rattle.tables.specs.Deserved.{DeservedSpanning}
+use Rattle.tables.specs.FirstBytes.{keptOf}
 use Rattle.equation.specs.Laws.{IsSmallest}
 use Rattle.equation.specs.declared.Start.{Start}
 use Rattle.answering.specs.declared.Verdict.{Verdict}
@@ -176,3 +177,10 @@ pub record PastInVersionThree : Type 0 where
       (answers tried : List ℕ) → answersAfter (asThree bytes) answers tried ≡ answersAfter bytes answers tried
   pub sameTried : (bytes : List ℕ) → versionOf bytes ≡ 2 → taskCount bytes ≤ 32 →
       (answers tried : List ℕ) → triedWordsAfter (asThree bytes) answers tried ≡ triedWordsAfter bytes answers tried
+
+-- "Bytes after the 4,590th are dropped, with the same refusals" (SPECIFICATION 13.13; document 02, L11): a table that came through an intake
+-- gets from this analysis, too, what all its bytes would get.
+pub record PastOfFirstBytes : Type 0 where
+  pub sameFound : (bytes : List ℕ) (answers tried : ℕ) → foundOf (keptOf bytes) answers tried ≡ foundOf bytes answers tried
+  pub sameAnswers : (bytes answers tried : List ℕ) → answersAfter (keptOf bytes) answers tried ≡ answersAfter bytes answers tried
+  pub sameTried : (bytes answers tried : List ℕ) → triedWordsAfter (keptOf bytes) answers tried ≡ triedWordsAfter bytes answers tried

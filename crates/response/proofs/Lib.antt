@@ -2,6 +2,7 @@ pub mod TableLaws
 pub mod OutcomeLaws
 pub mod DecodedLaws
 pub mod PlaceLaws
+pub mod FirstLaws
 pub mod Demands
 pub mod OnlyWritten
 pub mod Starts

@@ -8,3 +8,4 @@ pub mod Ties
 pub mod VersionOne
 pub mod Versions
 pub mod Worked
+pub mod FirstBytes
