@@ -343,8 +343,8 @@ uint64_t ulmerascio_analyse_past_period(const uint8_t *table, size_t table_len,
  * examples/cable.c is a whole program of this kind.
  *
  * The next table: after ulmerascio_intake_end the intake is ready for it, whatever the answer was.
- * Just take its first piece. To give up a table before its end, because the cable was pulled out
- * say, call ulmerascio_intake_begin.
+ * Just take its first piece. To give up a table before its end, say because the cable was pulled
+ * out, call ulmerascio_intake_begin.
  *
  * A table that is too long: no table has more than ULMERASCIO_LONGEST_TABLE bytes. The intake keeps
  * one byte more than that and drops the rest, so nothing is ever written past the store's end. Such
@@ -373,7 +373,8 @@ uint64_t ulmerascio_analyse_past_period(const uint8_t *table, size_t table_len,
 #define ULMERASCIO_SHORT_STORE 252
 
 /* The fill is wrong: it is above ULMERASCIO_STORE_BYTES. Either ulmerascio_intake_begin was not
- * called, or something else has written to the variable. The table has to be sent again. */
+ * called, or something else has written to the variable. The table has to be sent again. (A wrong
+ * fill that is smaller cannot be noticed.) */
 #define ULMERASCIO_WRONG_FILL 253
 
 /* Begins a table: sets the fill to 0, since nothing has come yet. Call it before the first piece of
@@ -394,7 +395,7 @@ void ulmerascio_intake_begin(size_t *fill);
  * ulmerascio_intake_end says it too.
  *
  * The time that a call takes depends on the number of bytes that it copies, and not on how many are
- * in the store already. Dropped bytes take none.
+ * in the store already. Dropped bytes take no time.
  *
  * store must be good for reading and writing store_len bytes, and piece for reading piece_len
  * bytes. Neither may be null, even where its length is 0. Store, fill and piece must not overlap.

@@ -5,10 +5,11 @@
  * both fills are compared with a third store and fill, which this program keeps itself.
  *
  * The tables are those of the file, which "tests/reference.py make" wrote, and longer ones that are
- * made here. Each table of the file comes whole, in two pieces for each place at which it can be cut,
- * in single bytes, and in random pieces with empty ones among them; no begin stands between two
- * tables. A cut table is ended at every cut, but one that takes many rounds or has more than
- * OFTEN_ENDED bytes only at every 101st and at the last; at the others the stores are compared. */
+ * made here. Each table of the file comes whole, in single bytes, in pieces of 64, in random pieces
+ * with empty ones among them, and in two pieces, cut at every place. Behind an end the next table
+ * comes without a begin. A table that is cut in two is ended each time, but one that takes many
+ * rounds or has more than OFTEN_ENDED bytes only for every 101st cut and the last; for the others a
+ * begin follows when the stores are compared. */
 #include <stdio.h>
 #include <stdlib.h>
 #include <string.h>
