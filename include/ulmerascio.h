@@ -342,9 +342,9 @@ uint64_t ulmerascio_analyse_past_period(const uint8_t *table, size_t table_len,
  *
  * examples/cable.c is a whole program of this kind.
  *
- * The next table: after ulmerascio_intake_end the intake is ready for it, whatever the answer was.
- * Just take its first piece. To give up a table before its end, say because the cable was pulled
- * out, call ulmerascio_intake_begin.
+ * The next table: after ulmerascio_intake_end the intake is ready for it, after a refusal too. Just
+ * take its first piece. To give up a table before its end, say because the cable was pulled out,
+ * call ulmerascio_intake_begin.
  *
  * A table that is too long: no table has more than ULMERASCIO_LONGEST_TABLE bytes. The intake keeps
  * one byte more than that and drops the rest, so nothing is ever written past the store's end. Such
@@ -358,8 +358,9 @@ uint64_t ulmerascio_analyse_past_period(const uint8_t *table, size_t table_len,
  *
  * ulmerascio_analyse_past_period, ulmerascio_play and ulmerascio_analyse_from_own_cost are called
  * in the same way. If bytes were dropped, these functions, too, say of the bytes that were kept
- * what they say of all of them. (To have the analysis's answer as well, call ulmerascio_intake_end
- * last, in place of ulmerascio_intake_begin.) */
+ * what they say of all of them. But they cannot tell you that the store is too short, so look at
+ * what ulmerascio_intake_take returns. (To have the analysis's answer as well, call
+ * ulmerascio_intake_end last, in place of ulmerascio_intake_begin.) */
 
 /* The store must have at least so many bytes: one more than the longest table has. Of a longer
  * store only the first so many are used. */
@@ -369,7 +370,7 @@ uint64_t ulmerascio_analyse_past_period(const uint8_t *table, size_t table_len,
  *
  * The store is too short: it has fewer than ULMERASCIO_STORE_BYTES bytes. This is tested first.
  * Nothing at all is changed, so nothing is lost: copy the bytes that are kept into a longer store,
- * and go on with that. */
+ * if there are any, and make the call again with that. */
 #define ULMERASCIO_SHORT_STORE 252
 
 /* The fill is wrong: it is above ULMERASCIO_STORE_BYTES. Either ulmerascio_intake_begin was not
@@ -391,8 +392,8 @@ void ulmerascio_intake_begin(size_t *fill);
  * were, and an empty piece changes nothing.
  *
  * It returns 0; or, if the store is too short or the fill is wrong, ULMERASCIO_SHORT_STORE or
- * ULMERASCIO_WRONG_FILL, and then changes nothing. You need not look at that after each piece:
- * ulmerascio_intake_end says it too.
+ * ULMERASCIO_WRONG_FILL, and then changes nothing. You need not look at that after each piece if
+ * you always lend the same store: ulmerascio_intake_end says it too.
  *
  * The time that a call takes depends on the number of bytes that it copies, and not on how many are
  * in the store already. Dropped bytes take no time.

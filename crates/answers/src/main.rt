@@ -12,6 +12,12 @@ use intake::MOST_KEPT;
 use libc::STDIN_FILENO;
 use libc::STDOUT_FILENO;
 
+// How many bytes were read in all, and by the last read: none at the end of the input.
+struct Read {
+    total: usize,
+    last: usize,
+}
+
 fn main() {
     let mut store = [0u8; MOST_KEPT];
     let mut fill: usize = 0;
@@ -21,24 +27,32 @@ fn main() {
     io::write_all(STDOUT_FILENO, &out[..end]);
 }
 
-// Takes standard input piece by piece, to its end, or until what is still to come would be dropped; answers how many bytes were read.
-fn take_all(store: &mut [u8], fill: &mut usize) -> usize
+// Takes standard input piece by piece, to its end, or until what is still to come would be dropped.
+fn take_all(store: &mut [u8], fill: &mut usize) -> Read
     requires { ⌜ mostKept ≤ length (now store) ⌝ }
     ensures { λ r. ⌜ KeepsRead r (held (now (store .exit)) (now (fill .exit))) ⌝ }
 {
     let mut piece = io::buffer();
     let mut total: usize = 0;
+    let mut last: usize = 0;
     intake::begin(fill);
     while total < MOST_KEPT {
         let got = libc::read(STDIN_FILENO, &mut piece);
         let count = io::count(got, &piece);
         if count == 0 {
-            return total;
+            return Read {
+                total: total,
+                last: count,
+            };
         }
         intake::take(store, fill, &piece[..count]);
         total = total + count;
+        last = count;
     }
-    total
+    Read {
+        total: total,
+        last: last,
+    }
 }
 
 // Ends the table, and puts the whole text of what is said of it into a buffer that holds any; answers where it ends.

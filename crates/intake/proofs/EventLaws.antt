@@ -14,9 +14,9 @@ use Rattle.printing.specs.Appended.{Appended, bytesAfter}
 use Rattle.printing.proofs.AppendLaws.{long, text-is, take-both, nothing}
 use Rattle.intake.specs.declared.Condition.{Condition}
 use Rattle.intake.specs.declared.Condition.the-variants as condition
-use Rattle.intake.specs.declared.Ended.the-variants as said
-use Rattle.intake.specs.Intake.{State, held, begun, conditionOf, ifReady, roomy, withPiece, bytesIn}
-use Rattle.intake.specs.Events.{Event, piece, end, Reply, took, replyOf, stateOf, repliesOf, stateAfter, answerTo, repliesTo, AnyEvents, sinceEnd, Keeps, AlwaysKept, AnyPieces, SameBytes, FreshAgain, AlwaysFresh, NothingTaken, shortReply, ShortStores, WrongFills}
+use Rattle.intake.specs.declared.Ended.{Ended}
+use Rattle.intake.specs.Intake.{State, held, begun, conditionOf, ifReady, roomy, withPiece, bytesIn, answersLeft, roundsLeft, fillAfter}
+use Rattle.intake.specs.Events.{Event, begin, piece, end, Reply, began, took, gave, replyOf, stateOf, AsCalled, repliesOf, stateAfter, answerTo, repliesTo, AnyEvents, sinceEnd, Keeps, AlwaysKept, AnyPieces, SameBytes, FreshAgain, AlwaysFresh, NothingTaken, ShortStores, WrongFills}
 use Rattle.intake.proofs.StateLaws.{fit-short, fit-wrong, fit-ready}
 
 -- ---- What is kept.
@@ -91,6 +91,7 @@ keeps-ended state answers rounds k =
 replies : (since : List ℕ) (state : State) (events : List Event) → Keeps since state → repliesOf state events ≡ repliesTo since events
 unfolding repliesOf repliesTo
 replies since state [] k = refl
+replies since state (begin ∷ events) k = ap (λ (rs : List Reply). began ∷ rs) (replies [] (begun (state .store)) events (keeps-none (state .store) (k .room)))
 replies since state (piece more ∷ events) k =
     ap (λ (r : Reply). r ∷ repliesOf (stateOf state (piece more)) events) (ap took (keeps-ready k))
     ∙ ap (λ (rs : List Reply). took condition.Ready ∷ rs) (replies (since ++ more) (stateOf state (piece more)) events (keeps-taken state more k))
@@ -105,6 +106,7 @@ anyEvents store events room = replies [] (begun store) events (keeps-none store 
 keeps-after : (since : List ℕ) (state : State) (events : List Event) → Keeps since state → Keeps (sinceEnd since events) (stateAfter state events)
 unfolding sinceEnd stateAfter
 keeps-after since state [] k = k
+keeps-after since state (begin ∷ events) k = keeps-after [] (begun (state .store)) events (keeps-none (state .store) (k .room))
 keeps-after since state (piece more ∷ events) k = keeps-after (since ++ more) (stateOf state (piece more)) events (keeps-taken state more k)
 keeps-after since state (end answers rounds ∷ events) k =
     keeps-after [] (stateOf state (end answers rounds)) events (keeps-ended state answers rounds k)
@@ -150,46 +152,15 @@ nothingTaken state = go (conditionOf state)
     go condition.ShortStore = refl
     go condition.WrongFill = refl
 
--- a short store stays as it is, by one event after the other
-module _ (state : State) (short : length (state .store) < 4590) where
-  is-short : conditionOf state ≡ condition.ShortStore
-  is-short = sym (fit-short (length (state .store)) (state .fill) short)
-
-  short-reply : (event : Event) → replyOf state event ≡ shortReply event
-  short-reply (piece more) = rw is-short refl
-  short-reply (end answers rounds) = rw is-short refl
-
-  short-state : (event : Event) → stateOf state event ≡ state
-  short-state (piece more) = rw is-short refl
-  short-state (end answers rounds) = rw is-short refl
-
-  short-replies : (events : List Event) → repliesOf state events ≡ map shortReply events
-  unfolding repliesOf
-  short-replies [] = refl
-  short-replies (event ∷ events) =
-      ap (λ (s : State). replyOf state event ∷ repliesOf s events) (short-state event)
-      ∙ ap (λ (r : Reply). r ∷ repliesOf state events) (short-reply event)
-      ∙ ap (λ (rs : List Reply). shortReply event ∷ rs) (short-replies events)
-
-  short-after : (events : List Event) → stateAfter state events ≡ state
-  unfolding stateAfter
-  short-after [] = refl
-  short-after (event ∷ events) = ap (λ (s : State). stateAfter s events) (short-state event) ∙ short-after events
-
 pub shortStores : ShortStores
-shortStores state events short = record { replies = short-replies state short events; left = short-after state short events }
-
--- a store is short, or it keeps what came
-pub alwaysFresh : AlwaysFresh
-alwaysFresh store events answers rounds =
-    elim (decLe 4590 (length store)) [
-      | yes room ↦
-          ap (λ (s : State). s .fill) (freshAgain (stateAfter (begun store) events) answers rounds (alwaysKept store events room .room))
-      | no short ↦
-          let small : length store < 4590 = omega (arith, short) in
-          ap (λ (s : State). stateOf s (end answers rounds) .fill) (short-after (begun store) small events)
-          ∙ ap (λ (s : State). s .fill) (short-state (begun store) small (end answers rounds))
-    ]
+shortStores state short =
+    let is-short : conditionOf state ≡ condition.ShortStore = sym (fit-short (length (state .store)) (state .fill) short) in
+    record {
+      pieceIs = λ more. rw is-short refl;
+      pieceLeaves = λ more. rw is-short refl;
+      endIs = λ answers rounds. rw is-short refl;
+      endLeaves = λ answers rounds. rw is-short refl;
+    }
 
 pub wrongFills : WrongFills
 wrongFills state room wrong =
@@ -199,4 +170,44 @@ wrongFills state room wrong =
       pieceLeaves = λ more. rw is-wrong refl;
       endIs = λ answers rounds. rw is-wrong refl;
       endLeaves = λ answers rounds. freshAgain state answers rounds room;
+    }
+
+-- a short store stays as it began
+short-after : (store : List ℕ) → length store < 4590 → (events : List Event) → stateAfter (begun store) events ≡ begun store
+unfolding stateAfter
+short-after store short [] = refl
+short-after store short (begin ∷ events) = short-after store short events
+short-after store short (piece more ∷ events) =
+    ap (λ (s : State). stateAfter s events) (shortStores (begun store) short .pieceLeaves more) ∙ short-after store short events
+short-after store short (end answers rounds ∷ events) =
+    ap (λ (s : State). stateAfter s events) (shortStores (begun store) short .endLeaves answers rounds) ∙ short-after store short events
+
+-- a store is short, or it keeps what came
+pub alwaysFresh : AlwaysFresh
+alwaysFresh store events answers rounds =
+    elim (decLe 4590 (length store)) [
+      | yes room ↦
+          ap (λ (s : State). s .fill) (freshAgain (stateAfter (begun store) events) answers rounds (alwaysKept store events room .room))
+      | no short ↦
+          let small : length store < 4590 = omega (arith, short) in
+          ap (λ (s : State). stateOf s (end answers rounds) .fill) (short-after store small events)
+          ∙ ap (λ (s : State). s .fill) (shortStores (begun store) small .endLeaves answers rounds)
+    ]
+
+-- ---- The contracts.
+
+pub asCalled : AsCalled
+asCalled =
+    record {
+      beginIs = λ state fill e. ap (held (state .store)) (sym e);
+      pieceIs = λ state bytes c left t. (ap took (sym (t .conditionIs)), sym (t .stateIs));
+      endIs =
+          λ state answers rounds ended fill answersNow roundsNow e.
+          let given = e .answered in (
+            ap (λ (x : Ended). gave x (answersLeft state answers rounds) (roundsLeft state answers rounds)) (sym (given .endedIs))
+                ∙ ap (λ (xs : List ℕ). gave ended xs (roundsLeft state answers rounds)) (sym (given .answersAre))
+                ∙ ap (gave ended answersNow) (sym (given .roundsAre)),
+            ap (λ (x : Ended). held (state .store) (fillAfter x (state .fill))) (sym (given .endedIs))
+                ∙ ap (held (state .store)) (sym (e .fillIs)),
+          );
     }

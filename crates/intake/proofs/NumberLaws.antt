@@ -1,20 +1,25 @@
 -- The numbers that C gets.
 -- Assumes nothing.
-use Prim.Native.Nat.{ℕ, _*_, _<_}
+use Prim.Native.Nat.{ℕ, _*_, _≤_, _<_}
 use native.Mathlib.Omega.{arith}
-use mathlib.Core.Path.{_≡_, sym, _∙_, ap, subst}
+use mathlib.Core.Path.{_≡_, refl, sym, _∙_, ap, subst}
+use mathlib.Core.Logic.{_≢_}
 use mathlib.Core.List.{List}
 use lib.ListN.{length}
+use Rattle.tables.specs.declared.Refusal.{Refusal}
+use Rattle.tables.specs.declared.Refusal.the-variants.{TooShort, UnknownVersion, CountOutOfRange, LengthsDiffer, NumberOutOfRange, PriorityOutOfOrder, SectionRow, NoRoom, NotPlayable}
+use Rattle.tables.specs.Refusals.{numberOf}
 use Rattle.answering.specs.declared.Verdict.{Verdict}
-use Rattle.response.specs.Verdicts.{verdictPlace, packed}
+use Rattle.answering.specs.declared.Verdict.the-variants as verdict
+use Rattle.response.specs.Verdicts.{codeOf, verdictPlace, packed}
 use Rattle.response.specs.Outcome.{verdictOf}
 use Rattle.response.proofs.PlaceLaws.{verdict-place}
 use Rattle.intake.specs.declared.Condition.{Condition}
 use Rattle.intake.specs.declared.Condition.the-variants.{Ready, ShortStore, WrongFill}
 use Rattle.intake.specs.declared.Ended.{Ended}
 use Rattle.intake.specs.declared.Ended.the-variants as said
-use Rattle.intake.specs.Intake.{State, conditionOf, fillAfter, Takes, Ends, bytesIn, endedFor}
-use Rattle.intake.specs.Numbers.{conditionCode, packedEnded, endedPlace, NumberedTake, NumberedEnd}
+use Rattle.intake.specs.Intake.{State, conditionOf, Takes, Ends, bytesIn, endedFor}
+use Rattle.intake.specs.Numbers.{conditionCode, packedEnded, endedPlace, CodesDrawn, NumberedTake, NumberedEnd}
 
 pub answered-place : {ended : Ended} (verdict : Verdict) → ended ≡ said.Answered verdict → endedPlace ended < 65536 → verdictPlace verdict < 65536
 answered-place verdict e h = subst (λ (x : Ended). endedPlace x < 65536) e h
@@ -43,15 +48,28 @@ module _ {state : State} {answers rounds : List ℕ} {ended : Ended} {fill : ℕ
       (verdict-place (bytesIn state) (length answers) (length rounds)))
 
   pub numbered-end : {n : ℕ} → n ≡ packedEnded ended → NumberedEnd state answers rounds n fill answersNow roundsNow
-  numbered-end p =
-      let same = e .answered .endedIs in
-      record {
-        numberIs = p ∙ ap (λ (x : Ended). packedEnded x) same;
-        fillIs = e .fillIs ∙ ap (λ (x : Ended). fillAfter x (state .fill)) same;
-        answersAre = e .answered .answersAre;
-        roundsAre = e .answered .roundsAre;
-      }
+  numbered-end p = record { ended = ended; ends = e; numberIs = p }
 
 pub numbered-take : {state : State} {piece : List ℕ} {condition : Condition} {left : State} {n : ℕ} → Takes state piece condition left →
     n ≡ conditionCode condition → NumberedTake state piece n left
-numbered-take t p = record { numberIs = p ∙ ap (λ (x : Condition). conditionCode x) (t .conditionIs); stateIs = t .stateIs }
+numbered-take {condition = condition} t p = record { condition = condition; takes = t; numberIs = p }
+
+-- no refusal has a number above 9
+refusal-small : (refusal : Refusal) → numberOf refusal ≤ 9
+refusal-small TooShort = omega arith
+refusal-small UnknownVersion = omega arith
+refusal-small (CountOutOfRange place) = omega arith
+refusal-small LengthsDiffer = omega arith
+refusal-small (NumberOutOfRange place) = omega arith
+refusal-small (PriorityOutOfOrder place) = omega arith
+refusal-small (SectionRow place) = omega arith
+refusal-small NoRoom = omega arith
+refusal-small NotPlayable = omega arith
+
+own : (verdict : Verdict) → (codeOf verdict ≢ conditionCode ShortStore) × (codeOf verdict ≢ conditionCode WrongFill)
+own (verdict.Refused refusal) = (λ e. omega (arith, e, refusal-small refusal), λ e. omega (arith, e, refusal-small refusal))
+own verdict.Schedulable = (λ e. omega (arith, e), λ e. omega (arith, e))
+own (verdict.Late place) = (λ e. omega (arith, e), λ e. omega (arith, e))
+
+pub codesDrawn : CodesDrawn
+codesDrawn = record { ready = refl; short = refl; wrong = refl; own = own }

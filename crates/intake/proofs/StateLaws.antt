@@ -49,10 +49,13 @@ module _ (long fill : ℕ) where
       ]
 
 module _ (store : List ℕ) (fill : ℕ) {condition : Condition} (fit : condition ≡ conditionFor (length store) fill) where
+  which : {one : Condition} → condition ≡ one → one ≡ conditionFor (length store) fill
+  which is = sym is ∙ fit
+
   -- a piece is taken
   module _ (ready : condition ≡ Ready) where
     is-ready : Ready ≡ conditionFor (length store) fill
-    is-ready = sym ready ∙ fit
+    is-ready = which ready
 
     pub taken-within : fill ≤ 4590
     taken-within = ready-means (length store) fill is-ready .1
@@ -88,25 +91,17 @@ module _ (store : List ℕ) (fill : ℕ) {condition : Condition} (fit : conditio
         }
 
   -- or nothing changes
-  module _ (short : condition ≡ ShortStore) where
-    is-short : ShortStore ≡ conditionFor (length store) fill
-    is-short = sym short ∙ fit
+  pub takes-short : {piece : List ℕ} → condition ≡ ShortStore → Takes (held store fill) piece condition (held store fill)
+  takes-short is = record { conditionIs = fit; stateIs = rw (sym (which is)) refl }
 
-    pub takes-short : {piece : List ℕ} → Takes (held store fill) piece condition (held store fill)
-    takes-short = record { conditionIs = fit; stateIs = rw (sym is-short) refl }
+  pub takes-wrong : {piece : List ℕ} → condition ≡ WrongFill → Takes (held store fill) piece condition (held store fill)
+  takes-wrong is = record { conditionIs = fit; stateIs = rw (sym (which is)) refl }
 
-    pub answers-short : {answers rounds : List ℕ} → Answers (held store fill) answers rounds said.ShortStore answers rounds
-    answers-short = record { endedIs = rw (sym is-short) refl; answersAre = rw (sym is-short) refl; roundsAre = rw (sym is-short) refl }
+  pub answers-short : {answers rounds : List ℕ} → condition ≡ ShortStore → Answers (held store fill) answers rounds said.ShortStore answers rounds
+  answers-short is = record { endedIs = rw (sym (which is)) refl; answersAre = rw (sym (which is)) refl; roundsAre = rw (sym (which is)) refl }
 
-  module _ (wrong : condition ≡ WrongFill) where
-    is-wrong : WrongFill ≡ conditionFor (length store) fill
-    is-wrong = sym wrong ∙ fit
-
-    pub takes-wrong : {piece : List ℕ} → Takes (held store fill) piece condition (held store fill)
-    takes-wrong = record { conditionIs = fit; stateIs = rw (sym is-wrong) refl }
-
-    pub answers-wrong : {answers rounds : List ℕ} → Answers (held store fill) answers rounds said.WrongFill answers rounds
-    answers-wrong = record { endedIs = rw (sym is-wrong) refl; answersAre = rw (sym is-wrong) refl; roundsAre = rw (sym is-wrong) refl }
+  pub answers-wrong : {answers rounds : List ℕ} → condition ≡ WrongFill → Answers (held store fill) answers rounds said.WrongFill answers rounds
+  answers-wrong is = record { endedIs = rw (sym (which is)) refl; answersAre = rw (sym (which is)) refl; roundsAre = rw (sym (which is)) refl }
 
 pub noSecondTake : NoSecondTake
 noSecondTake state piece condition other left another a b = (a .conditionIs ∙ sym (b .conditionIs), a .stateIs ∙ sym (b .stateIs))

@@ -1,5 +1,5 @@
--- Whatever pieces come, and however often a table ends: each end answers for all the bytes since the end before (SPECIFICATION 13.13;
--- document 02, L11). The proofs are in proofs/EventLaws.antt.
+-- Whatever pieces come, and however often a table ends: each end answers for all the bytes since the end before, or since `begin`, if that
+-- was called in between (SPECIFICATION 13.13; document 02, L11). The proofs are in proofs/EventLaws.antt.
 -- Assumes nothing.
 use Prim.Native.Nat.{ℕ, _≤_, _<_, min}
 use mathlib.Core.Path.{_≡_}
@@ -12,26 +12,40 @@ use Rattle.intake.specs.declared.Condition.{Condition}
 use Rattle.intake.specs.declared.Condition.the-variants as condition
 use Rattle.intake.specs.declared.Ended.{Ended}
 use Rattle.intake.specs.declared.Ended.the-variants as said
-use Rattle.intake.specs.Intake.{State, held, begunFill, begun, conditionOf, takenBy, bytesIn, endedBy, answersLeft, roundsLeft, fillAfter}
+use Rattle.intake.specs.Intake.{State, held, begunFill, begun, conditionOf, takenBy, Takes, Ends, bytesIn, endedBy, answersLeft, roundsLeft, fillAfter}
 
--- What can happen: a piece arrives, or the sender says that the table has ended, and both slices are lent as they are.
+-- What can happen: what came is given up, and a table begins anew; a piece arrives; or the sender says that the table has ended, and both
+-- slices are lent as they are.
 pub data Event : Type 0 where
+  begin : Event
   piece : (bytes : List ℕ) → Event
   end : (answers rounds : List ℕ) → Event
 
 -- What is replied: to a piece whether it was taken, and to an end what is said, and the words of both slices as they are left.
 pub data Reply : Type 0 where
+  began : Reply
   took : Condition → Reply
   gave : Ended → (answers rounds : List ℕ) → Reply
 
--- One call, as the contracts of `take` and `end` have it: what it replies, and what it leaves.
+-- One call: what it replies, and what it leaves.
 abbrev pub replyOf : State → Event → Reply
+replyOf state begin = began
 replyOf state (piece bytes) = took (conditionOf state)
 replyOf state (end answers rounds) = gave (endedBy state answers rounds) (answersLeft state answers rounds) (roundsLeft state answers rounds)
 
 abbrev pub stateOf : State → Event → State
+stateOf state begin = begun (state .store)
 stateOf state (piece bytes) = takenBy state bytes
 stateOf state (end answers rounds) = held (state .store) (fillAfter (endedBy state answers rounds) (state .fill))
+
+-- That is what the contracts of `begin`, `take` and `end` say.
+pub record AsCalled : Type 0 where
+  pub beginIs : (state : State) (fill : ℕ) → fill ≡ begunFill → stateOf state begin ≡ held (state .store) fill
+  pub pieceIs : (state : State) (bytes : List ℕ) (condition : Condition) (left : State) → Takes state bytes condition left →
+      (replyOf state (piece bytes) ≡ took condition) × (stateOf state (piece bytes) ≡ left)
+  pub endIs : (state : State) (answers rounds : List ℕ) (ended : Ended) (fill : ℕ) (answersNow roundsNow : List ℕ) →
+      Ends state answers rounds ended fill answersNow roundsNow →
+      (replyOf state (end answers rounds) ≡ gave ended answersNow roundsNow) × (stateOf state (end answers rounds) ≡ held (state .store) fill)
 
 -- and one call after the other
 unfoldable pub repliesOf : State → List Event → List Reply
@@ -49,20 +63,21 @@ answerTo bytes answers rounds =
     (roundsAfter EveryCost bytes answers rounds)
 
 -- What is to be replied, where the bytes `since` have come since the end before: every piece is taken, and each end is answered for all
--- the bytes since the end before, however many.
+-- the bytes since the end before, however many, or since the table began anew.
 unfoldable pub repliesTo : List ℕ → List Event → List Reply
 repliesTo since [] = []
+repliesTo since (begin ∷ events) = began ∷ repliesTo [] events
 repliesTo since (piece bytes ∷ events) = took condition.Ready ∷ repliesTo (since ++ bytes) events
 repliesTo since (end answers rounds ∷ events) = answerTo since answers rounds ∷ repliesTo [] events
 
--- The theorem of document 02, L11: for every list of events, from the beginning, with any store that is long enough. (Whoever calls `begin`
--- between them begins anew, with the store as it then is.)
+-- The theorem of document 02, L11: for every list of events, from the beginning, with any store that is long enough.
 abbrev pub AnyEvents : Type 0
 AnyEvents = (store : List ℕ) (events : List Event) → mostKept ≤ length store → repliesOf (begun store) events ≡ repliesTo [] events
 
--- the bytes since the last end
+-- the bytes since the last end, or since the table began anew
 unfoldable pub sinceEnd : List ℕ → List Event → List ℕ
 sinceEnd since [] = since
+sinceEnd since (begin ∷ events) = sinceEnd [] events
 sinceEnd since (piece bytes ∷ events) = sinceEnd (since ++ bytes) events
 sinceEnd since (end answers rounds ∷ events) = sinceEnd [] events
 
@@ -91,12 +106,12 @@ SameBytes =
     replyOf (stateAfter (begun store) (map piece pieces)) (end answers rounds)
     ≡ replyOf (stateAfter (begun another) (map piece others)) (end answers rounds)
 
--- "After an answer the intake is fresh again": after any end, whatever was said, the state is that of the beginning, and the store is as it
--- was.
+-- "After an answer the intake is fresh again": after any end, whatever was said, the state is that of the beginning, in a store that is long
+-- enough; and the store is as it was.
 abbrev pub FreshAgain : Type 0
 FreshAgain = (state : State) (answers rounds : List ℕ) → mostKept ≤ length (state .store) → stateOf state (end answers rounds) ≡ begun (state .store)
 
--- and so it is after an end that any events go before, from the beginning, in any store, however short
+-- And so it is after an end that any events go before, from the beginning, in any store, however short: nothing is counted.
 abbrev pub AlwaysFresh : Type 0
 AlwaysFresh =
     (store : List ℕ) (events : List Event) (answers rounds : List ℕ) →
@@ -106,25 +121,19 @@ AlwaysFresh =
 abbrev pub NothingTaken : Type 0
 NothingTaken = (state : State) → stateOf state (piece []) ≡ state
 
--- A store that is too short, with any fill: nothing is ever taken or given up, no word of a slice changes, and each call says why.
-abbrev pub shortReply : Event → Reply
-shortReply (piece bytes) = took condition.ShortStore
-shortReply (end answers rounds) = gave said.ShortStore answers rounds
-
-pub record Stays (state : State) (events : List Event) : Type 0 where
-  pub replies : repliesOf state events ≡ map shortReply events
-  pub left : stateAfter state events ≡ state
-
-abbrev pub ShortStores : Type 0
-ShortStores = (state : State) (events : List Event) → length (state .store) < mostKept → Stays state events
-
--- A fill that is wrong, in a store that is long enough: no piece is taken, and an end says why, changes no word of a slice, and makes the
--- intake fresh.
-pub record Rejected (state : State) : Type 0 where
-  pub pieceIs : (bytes : List ℕ) → replyOf state (piece bytes) ≡ took condition.WrongFill
+-- What cannot be used: no piece is taken, each call says why, and no word of a slice changes; and `after` is what an end leaves.
+pub record Unfit (state : State) (condition : Condition) (ended : Ended) (after : State) : Type 0 where
+  pub pieceIs : (bytes : List ℕ) → replyOf state (piece bytes) ≡ took condition
   pub pieceLeaves : (bytes : List ℕ) → stateOf state (piece bytes) ≡ state
-  pub endIs : (answers rounds : List ℕ) → replyOf state (end answers rounds) ≡ gave said.WrongFill answers rounds
-  pub endLeaves : (answers rounds : List ℕ) → stateOf state (end answers rounds) ≡ begun (state .store)
+  pub endIs : (answers rounds : List ℕ) → replyOf state (end answers rounds) ≡ gave ended answers rounds
+  pub endLeaves : (answers rounds : List ℕ) → stateOf state (end answers rounds) ≡ after
 
+-- A store that is too short, with any fill: nothing is taken, and nothing is given up.
+abbrev pub ShortStores : Type 0
+ShortStores = (state : State) → length (state .store) < mostKept → Unfit state condition.ShortStore said.ShortStore state
+
+-- A fill that is wrong, in a store that is long enough: nothing is taken, and an end makes the intake fresh.
 abbrev pub WrongFills : Type 0
-WrongFills = (state : State) → mostKept ≤ length (state .store) → mostKept < state .fill → Rejected state
+WrongFills =
+    (state : State) → mostKept ≤ length (state .store) → mostKept < state .fill →
+    Unfit state condition.WrongFill said.WrongFill (begun (state .store))

@@ -2,13 +2,15 @@
 -- Assumes nothing.
 use Prim.Native.Nat.{ℕ, _*_}
 use mathlib.Core.Path.{_≡_}
+use mathlib.Core.Logic.{_≢_}
 use mathlib.Core.List.{List}
-use Rattle.response.specs.Verdicts.{verdictPlace, packed}
+use Rattle.answering.specs.declared.Verdict.{Verdict}
+use Rattle.response.specs.Verdicts.{codeOf, verdictPlace, packed}
 use Rattle.intake.specs.declared.Condition.{Condition}
 use Rattle.intake.specs.declared.Condition.the-variants.{Ready, ShortStore, WrongFill}
 use Rattle.intake.specs.declared.Ended.{Ended}
 use Rattle.intake.specs.declared.Ended.the-variants as said
-use Rattle.intake.specs.Intake.{State, conditionOf, takenBy, endedBy, answersLeft, roundsLeft, fillAfter}
+use Rattle.intake.specs.Intake.{State, Takes, Ends}
 
 -- 0, or a code that no verdict has
 abbrev pub conditionCode : Condition → ℕ
@@ -27,14 +29,21 @@ endedPlace (said.Answered verdict) = verdictPlace verdict
 endedPlace said.ShortStore = 0
 endedPlace said.WrongFill = 0
 
--- The whole of a call that takes a piece, as C sees it.
-pub record NumberedTake (state : State) (piece : List ℕ) (number : ℕ) (left : State) : Type 0 where
-  pub numberIs : number ≡ conditionCode (conditionOf state)
-  pub stateIs : left ≡ takenBy state piece
+-- No verdict has one of the two codes, and they are told apart. The proof is in proofs/NumberLaws.antt.
+pub record CodesDrawn : Type 0 where
+  pub ready : conditionCode Ready ≡ 0
+  pub short : packedEnded said.ShortStore ≡ 1082331758592
+  pub wrong : packedEnded said.WrongFill ≡ 1086626725888
+  pub own : (verdict : Verdict) → (codeOf verdict ≢ conditionCode ShortStore) × (codeOf verdict ≢ conditionCode WrongFill)
 
--- And of one that ends a table.
+-- A call that takes a piece, as C sees it: what `take` says and leaves, by its number.
+pub record NumberedTake (state : State) (piece : List ℕ) (number : ℕ) (left : State) : Type 0 where
+  pub condition : Condition
+  pub takes : Takes state piece condition left
+  pub numberIs : number ≡ conditionCode condition
+
+-- One that ends a table: what `end` says and leaves.
 pub record NumberedEnd (state : State) (answers rounds : List ℕ) (number fill : ℕ) (answersNow roundsNow : List ℕ) : Type 0 where
-  pub numberIs : number ≡ packedEnded (endedBy state answers rounds)
-  pub fillIs : fill ≡ fillAfter (endedBy state answers rounds) (state .fill)
-  pub answersAre : answersNow ≡ answersLeft state answers rounds
-  pub roundsAre : roundsNow ≡ roundsLeft state answers rounds
+  pub ended : Ended
+  pub ends : Ends state answers rounds ended fill answersNow roundsNow
+  pub numberIs : number ≡ packedEnded ended

@@ -13,9 +13,9 @@ use Rattle.equation.specs.Sequence.{term}
 use Rattle.blocking.specs.Ceilings.{ceiling, blockingOf}
 use Rattle.response.specs.Analysis.{answerOf, roundsOf}
 use Rattle.response.specs.Outcome.{verdictOf, answersAfter, roundsAfter}
-use Rattle.intake.specs.Events.{repliesTo}
+use Rattle.intake.specs.Events.{repliesOf, stateAfter, repliesTo}
 use Rattle.intake.proofs.EventLaws.{anyEvents}
-use Rattle.samples.specs.CableSample.{events, replies, CableSample}
+use Rattle.samples.specs.CableSample.{events, replies, CableSample, StoresDrawn}
 
 computed : repliesTo [] events ≡ replies
 unfolding tabulate gather sumOf largestOf firstFrom firstOf layoutFor unless orElse firstIn fieldsCheck countTest lengthsAgree priorityFits recordTest rowAfter rowTest countsCheck recordCheck rowCheck headCheck recordsCheck rowsCheck bodyCheck roomCheck tableCheckSpanning demand term ceiling blockingOf answerOf roundsOf verdictOf answersAfter roundsAfter repliesTo events replies
@@ -23,3 +23,7 @@ computed = refl
 
 pub cableSample : CableSample
 cableSample store room = anyEvents store events room ∙ computed
+
+pub storesDrawn : StoresDrawn
+unfolding tabulate gather sumOf largestOf firstFrom firstOf layoutFor unless orElse firstIn fieldsCheck countTest lengthsAgree countsCheck headCheck bodyCheck roomCheck tableCheckSpanning verdictOf answersAfter roundsAfter repliesOf stateAfter
+storesDrawn = record { taken = refl; ended = refl; full = refl; short = refl; shortLeft = refl; wrong = refl; wrongLeft = refl }
