@@ -1,6 +1,6 @@
 /* plain.h: the analysis of document 01, the engine of document 02, L1, the checker of claims of its
- * L7 and the second analysis of its L8 in plain C, to test and to measure against. All read tables
- * of versions 1 to 3. */
+ * L7, the second analysis of its L8 and the intake of its L11 in plain C, to test and to measure
+ * against. All read tables of versions 1 to 3. */
 #ifndef PLAIN_H
 #define PLAIN_H
 
@@ -35,5 +35,15 @@ uint64_t plain_play(const uint8_t *table, size_t table_len,
  * refused with that number, 255 fails, with the first place that does. */
 uint64_t plain_check_claims(const uint8_t *table, size_t table_len,
                             const uint32_t *claims, size_t claims_len);
+
+/* The intake, which keeps the first 4,590 bytes of a table that comes in pieces. A store of fewer
+ * bytes gets 252, and nothing is changed; a fill above 4,590 gets 253. What the end returns is
+ * packed in the same way, and is plain_analyse's but for these two. */
+void plain_intake_begin(size_t *fill);
+uint32_t plain_intake_take(uint8_t *store, size_t store_len, size_t *fill,
+                           const uint8_t *piece, size_t piece_len);
+uint64_t plain_intake_end(const uint8_t *store, size_t store_len, size_t *fill,
+                          uint32_t *answers, size_t answers_len,
+                          uint32_t *rounds, size_t rounds_len);
 
 #endif

@@ -19,6 +19,8 @@ enum { STACK_BYTES = 1 << 20, MOST_BYTES = 65536, RETURN_ADDRESS = 8 };
 static uint8_t table[MOST_BYTES];
 static size_t length;
 static uint32_t answers[ULMERASCIO_MOST_TASKS], rounds[ULMERASCIO_MOST_TASKS];
+static uint8_t store[ULMERASCIO_STORE_BYTES];
+static size_t fill;
 
 /* What the calls give goes here, so that none of them can be left out. */
 static volatile uint64_t sink;
@@ -69,6 +71,25 @@ static void call_check_claims(void)
     sink = ulmerascio_check_claims(table, length, answers, table[3]);
 }
 
+static void call_intake_begin(void)
+{
+    ulmerascio_intake_begin(&fill);
+}
+
+/* The whole table in one piece. */
+static void call_intake_take(void)
+{
+    fill = 0;
+    sink = ulmerascio_intake_take(store, sizeof store, &fill, table, length);
+}
+
+static void call_intake_end(void)
+{
+    fill = length;
+    sink = ulmerascio_intake_end(store, sizeof store, &fill, answers, ULMERASCIO_MOST_TASKS, rounds,
+                                 ULMERASCIO_MOST_TASKS);
+}
+
 static const struct entry {
     const char *name;
     void (*call)(void);
@@ -78,6 +99,9 @@ static const struct entry {
     {"ulmerascio_analyse_past_period", call_analyse_past_period},
     {"ulmerascio_play", call_play},
     {"ulmerascio_check_claims", call_check_claims},
+    {"ulmerascio_intake_begin", call_intake_begin},
+    {"ulmerascio_intake_take", call_intake_take},
+    {"ulmerascio_intake_end", call_intake_end},
 };
 
 enum { ENTRIES = sizeof entries / sizeof entries[0] };
@@ -145,6 +169,7 @@ static void read_table(const char *name)
     }
     length = fread(table, 1, sizeof table, file);
     fclose(file);
+    memcpy(store, table, sizeof store);
 }
 
 int main(int count, char **words)

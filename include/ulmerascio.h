@@ -8,7 +8,9 @@
  * at least a period apart. The engine comes to the same answers, for the tables that it takes, by
  * playing the worst case tick by tick. The checker of claims is given response times that somebody
  * claims, and says whether they hold. The second analysis is for tables in which a deadline may be
- * longer than the task's period. docs/SPECIFICATION.md has all the rules and terms.
+ * longer than the task's period. The intake is for a table that comes in pieces, over a cable say:
+ * it keeps them, and at the end answers as the analysis does. docs/SPECIFICATION.md has all the
+ * rules and terms.
  *
  * THE LIBRARY. All functions are in one archive, libulmerascio.a, which the command ./library makes
  * in the folder target/c, with a copy of this header beside it:
@@ -24,9 +26,9 @@
  * MEMORY. A call uses the stack and what it is lent: no heap, and no global variables; the archive
  * has no data that can be written. So the functions are reentrant: they may be called from several
  * threads at once, and from a signal handler that interrupts a call, if each call has slices of its
- * own to write to. (They use the SSE registers and the 128 bytes below the stack pointer, as the
- * calling convention allows. Whoever calls them from an interrupt without an operating system has
- * to keep those for what was interrupted.)
+ * own to write to, and each intake its own store and fill. (They use the SSE registers and the 128
+ * bytes below the stack pointer, as the calling convention allows. Whoever calls them from an
+ * interrupt without an operating system has to keep those for what was interrupted.)
  *
  * THE C LIBRARY. One function of it is called: memset, with which the compiler clears arrays. Where
  * there is no C library, supply a memset of your own, and have gcc compile it with -ffreestanding:
@@ -42,6 +44,11 @@
  *     ulmerascio_play                   7,400    3.0       5.7        3,110         3,200
  *     ulmerascio_check_claims           5,800    0.011     0.29           0.55          0.6
  *     ulmerascio_analyse_past_period    6,700    0.023     0.46     116,000    42,000,000
+ *     ulmerascio_intake_begin               8    2 instructions
+ *     ulmerascio_intake_take               40    0.0003    0.0012         0.0012        0.0012
+ *     ulmerascio_intake_end             6,800    0.06      1.2        3,520       650,000
+ *
+ * ulmerascio_intake_take is that of a whole table in one piece; a single byte takes 52 instructions.
  *
  * The stack was measured, and agrees with what the machine code takes; the numbers are rounded up.
  * To them comes what memset itself uses: next to nothing, but some 3,000 bytes at the first call in
@@ -50,8 +57,8 @@
  * slowest found were counted too, on tables that were made to be slow; slower ones may exist. The
  * last column was not counted but reckoned, from how often each loop can run at most and how many
  * instructions it has. docs/PERFORMANCE.md tells how ("The greatest cost"), and has the same for up
- * to 32 tasks. So let nothing wait for an analysis or the engine that gets tables from strangers;
- * a check of claims is always quick.
+ * to 32 tasks. So let nothing wait for an analysis, the engine or the end of an intake that gets
+ * tables from strangers; a check of claims is always quick, and so is taking a piece.
  *
  * THE PROCESSOR. The archive is for x86-64 and Linux: the System V calling convention, position
  * independent code, and instructions that every x86-64 processor has. With another processor there
@@ -308,8 +315,122 @@ uint64_t ulmerascio_analyse_past_period(const uint8_t *table, size_t table_len,
                                         uint32_t *answers, size_t answers_len,
                                         uint32_t *tried, size_t tried_len);
 
-/* Of what both analyses and the engine return: 1 if every task has an answer within its deadline,
- * else 0. */
+/* THE INTAKE is for a table that does not come at once but in pieces, over a cable say. A piece is
+ * any number of bytes, from none to all of the table, and the table may be cut anywhere, in the
+ * middle of a number too. When the table has ended, the intake gives exactly the answer that
+ * ulmerascio_analyse gives for all its bytes at once.
+ *
+ * What is kept from one piece to the next is yours: the store, an array in which the bytes of the
+ * table are put one after the other, and the fill, the number of bytes that are in it. Here each
+ * piece is one byte. receive and load stand for functions of your own: receive waits for the next
+ * byte, and returns 0 when the table has ended. (How you learn that is up to you. The sender may
+ * tell, or fall silent; the intake does not guess.)
+ *
+ *     static uint8_t store[ULMERASCIO_STORE_BYTES];
+ *     static size_t fill;
+ *     static uint32_t answers[ULMERASCIO_MOST_TASKS], rounds[ULMERASCIO_MOST_TASKS];
+ *     uint64_t verdict;
+ *     uint8_t byte;
+ *
+ *     ulmerascio_intake_begin(&fill);
+ *     while (receive(&byte))
+ *         ulmerascio_intake_take(store, sizeof store, &fill, &byte, 1);
+ *     verdict = ulmerascio_intake_end(store, sizeof store, &fill, answers, ULMERASCIO_MOST_TASKS,
+ *                                     rounds, ULMERASCIO_MOST_TASKS);
+ *     if (ulmerascio_is_schedulable(verdict))
+ *         load(store);
+ *
+ * examples/cable.c is a whole program of this kind.
+ *
+ * The next table: after ulmerascio_intake_end the intake is ready for it, whatever the answer was.
+ * Just take its first piece. To give up a table before its end, say because the cable was pulled
+ * out, call ulmerascio_intake_begin.
+ *
+ * A table that is too long: no table has more than ULMERASCIO_LONGEST_TABLE bytes. The intake keeps
+ * one byte more than that and drops the rest, so nothing is ever written past the store's end. Such
+ * a table is refused, with the number and the place that it gets if all its bytes are there.
+ *
+ * The other functions can use the same intake. After the last piece call them with the store as the
+ * table and the fill as its length, and then ulmerascio_intake_begin:
+ *
+ *     verdict = ulmerascio_check_claims(store, fill, claims, claims_len);
+ *     ulmerascio_intake_begin(&fill);
+ *
+ * ulmerascio_analyse_past_period, ulmerascio_play and ulmerascio_analyse_from_own_cost are called
+ * in the same way. If bytes were dropped, these functions, too, say of the bytes that were kept
+ * what they say of all of them. (To have the analysis's answer as well, call ulmerascio_intake_end
+ * last, in place of ulmerascio_intake_begin.) */
+
+/* The store must have at least so many bytes: one more than the longest table has. Of a longer
+ * store only the first so many are used. */
+#define ULMERASCIO_STORE_BYTES 4590
+
+/* What the intake returns if it is used wrongly.
+ *
+ * The store is too short: it has fewer than ULMERASCIO_STORE_BYTES bytes. This is tested first.
+ * Nothing at all is changed, so nothing is lost: copy the bytes that are kept into a longer store,
+ * and go on with that. */
+#define ULMERASCIO_SHORT_STORE 252
+
+/* The fill is wrong: it is above ULMERASCIO_STORE_BYTES. Either ulmerascio_intake_begin was not
+ * called, or something else has written to the variable. The table has to be sent again. (A wrong
+ * fill that is smaller cannot be noticed.) */
+#define ULMERASCIO_WRONG_FILL 253
+
+/* Begins a table: sets the fill to 0, since nothing has come yet. Call it before the first piece of
+ * the first table.
+ *
+ * fill must not be null, here and in the two functions below, and must be good for reading and
+ * writing and aligned for a size_t.
+ */
+void ulmerascio_intake_begin(size_t *fill);
+
+/* Takes the next piece of a table: the piece_len bytes at piece. They are copied into the store,
+ * after those that came before, and the fill grows by their number. What has no room in the first
+ * ULMERASCIO_STORE_BYTES bytes of the store is dropped. All other bytes of the store stay as they
+ * were, and an empty piece changes nothing.
+ *
+ * It returns 0; or, if the store is too short or the fill is wrong, ULMERASCIO_SHORT_STORE or
+ * ULMERASCIO_WRONG_FILL, and then changes nothing. You need not look at that after each piece:
+ * ulmerascio_intake_end says it too.
+ *
+ * The time that a call takes depends on the number of bytes that it copies, and not on how many are
+ * in the store already. Dropped bytes take no time.
+ *
+ * store must be good for reading and writing store_len bytes, and piece for reading piece_len
+ * bytes. Neither may be null, even where its length is 0. Store, fill and piece must not overlap.
+ */
+uint32_t ulmerascio_intake_take(uint8_t *store, size_t store_len, size_t *fill,
+                                const uint8_t *piece, size_t piece_len);
+
+/* Ends a table: analyses the first bytes of the store, as many as the fill says, and sets the fill
+ * to 0, after a refusal too.
+ *
+ * The verdict, and what is written to answers and rounds, are those of ulmerascio_analyse for all
+ * the bytes that came since ulmerascio_intake_begin or since the end of the table before. (If none
+ * came, the table is refused with 1.) There are two codes more, both with place 0:
+ *
+ *     code 252    ULMERASCIO_SHORT_STORE; nothing is changed, not even the fill
+ *     code 253    ULMERASCIO_WRONG_FILL; no word of either slice is changed, and the fill is set
+ *                 to 0
+ *
+ * For both ulmerascio_is_wrong_use is 1, and ulmerascio_is_schedulable, ulmerascio_is_late and
+ * ulmerascio_is_refused are 0: so a program that loads schedulable tables alone loads nothing.
+ *
+ * The store is not changed: until the next piece is taken the table stands at its beginning, ready
+ * to be loaded. Its length is what the fill was before the call; a table that is not refused also
+ * has it in its bytes 1 and 2, the more significant byte first.
+ *
+ * A call takes as long as one of ulmerascio_analyse. What is said there of answers and rounds holds
+ * here too. store must be good for reading store_len bytes and must not be null. Store, fill,
+ * answers and rounds must not overlap.
+ */
+uint64_t ulmerascio_intake_end(const uint8_t *store, size_t store_len, size_t *fill,
+                               uint32_t *answers, size_t answers_len,
+                               uint32_t *rounds, size_t rounds_len);
+
+/* Of what both analyses, the engine and the intake return: 1 if every task has an answer within its
+ * deadline, else 0. */
 static inline int ulmerascio_is_schedulable(uint64_t verdict)
 {
     return verdict >> 32 == 0;
@@ -341,6 +462,13 @@ static inline int ulmerascio_is_fail(uint64_t verdict)
     return verdict >> 32 == 255;
 }
 
+/* Of what ulmerascio_intake_end returns: 1 if nothing was analysed, since the store is too short or
+ * the fill is wrong; else 0. */
+static inline int ulmerascio_is_wrong_use(uint64_t verdict)
+{
+    return verdict >> 32 == ULMERASCIO_SHORT_STORE || verdict >> 32 == ULMERASCIO_WRONG_FILL;
+}
+
 /* 1 if the table or the list of claims was refused, else 0. */
 static inline int ulmerascio_is_refused(uint64_t verdict)
 {
@@ -354,8 +482,8 @@ static inline int ulmerascio_refusal(uint64_t verdict)
 }
 
 /* The place of a refusal, as listed above, or the number of the first task that is late or open, or
- * of the first whose claim fails, counted from 0; 0 if the table is schedulable or every claim
- * passes. */
+ * of the first whose claim fails, counted from 0; 0 if the table is schedulable, every claim passes
+ * or the intake is used in a wrong way. */
 static inline uint32_t ulmerascio_place(uint64_t verdict)
 {
     return (uint32_t)(verdict & 0xFFFFFFFFu);

@@ -11,13 +11,11 @@
 #include <string.h>
 
 #include "plain.h"
+#include "tables.h"
 #include "ulmerascio.h"
 
 enum {
-    LONGEST_SLICE = 255,
     LAST_LENGTH = 40,    /* of slices, where every length is tried */
-    GUARD = 8,           /* words on both sides of a slice, which must stay */
-    ENTRY_HEADER = 4,    /* table length (2), answers length (1), rounds length (1) */
     CLAIMS_HEADER = 3,   /* table length (2), number of claims (1) */
     MOST_CLAIMS = 255,
     MOST_EACH = 40,      /* tasks of a table, where each of them is tried */
@@ -31,9 +29,6 @@ enum {
     MOST_TICKS = 1000000
 };
 
-static const uint32_t filler = 0xA5A5A5A5u;
-
-typedef uint64_t analysis(const uint8_t *, size_t, uint32_t *, size_t, uint32_t *, size_t);
 typedef uint64_t engine(const uint8_t *, size_t, uint32_t *, size_t);
 
 /* An analysis, ours and plain C's: from one of the two starts of the rounds (document 02, L5), of
@@ -49,73 +44,15 @@ static const struct pair own_cost = {"from own cost", ulmerascio_analyse_from_ow
 static const struct pair past_period = {"past the period", ulmerascio_analyse_past_period,
                                         plain_analyse_past_period};
 
-struct table {
-    const uint8_t *bytes;
-    size_t length;
-};
-
-struct outcome {
-    uint64_t verdict;
-    uint32_t answers[GUARD + LONGEST_SLICE + GUARD];
-    uint32_t rounds[GUARD + LONGEST_SLICE + GUARD];
-};
-
 static unsigned long calls, plays, taken, lists, passed;
 static unsigned long overlaps, overlaps_taken, repeated, undecided; /* of the second analysis */
 
-static void call(analysis *analyse, struct table table, size_t answers_len, size_t rounds_len,
-                 struct outcome *outcome)
+/* The codes that such a call may return. */
+static int code_known(uint64_t verdict)
 {
-    for (size_t i = 0; i < GUARD + LONGEST_SLICE + GUARD; i++)
-        outcome->answers[i] = outcome->rounds[i] = filler;
-    outcome->verdict = analyse(table.bytes, table.length, outcome->answers + GUARD, answers_len,
-                               outcome->rounds + GUARD, rounds_len);
-}
+    uint64_t code = verdict / 4294967296u;
 
-static void fail_word(const char *slice, size_t at, uint32_t ours, uint32_t wanted)
-{
-    printf("c: word %ld of the %s is %lu, not %lu\n", (long)at - GUARD, slice,
-           (unsigned long)ours, (unsigned long)wanted);
-    exit(1);
-}
-
-static void compare_slice(const char *slice, const uint32_t *ours, const uint32_t *plain)
-{
-    for (size_t i = 0; i < GUARD + LONGEST_SLICE + GUARD; i++)
-        if (ours[i] != plain[i])
-            fail_word(slice, i, ours[i], plain[i]);
-}
-
-/* Words past n, all words on a refusal, and the guards stay; said without the plain analysis. */
-static void check_stayed(const char *slice, const uint32_t *words, size_t written)
-{
-    for (size_t i = 0; i < GUARD + LONGEST_SLICE + GUARD; i++)
-        if ((i < GUARD || i >= GUARD + written) && words[i] != filler)
-            fail_word(slice, i, words[i], filler);
-}
-
-/* The header's functions take the verdict apart as it is packed. */
-static int helpers_agree(uint64_t verdict)
-{
-    uint64_t code = verdict / 4294967296u, place = verdict % 4294967296u;
-    int refused = code >= 1 && code <= 11;
-
-    return ulmerascio_is_schedulable(verdict) == (code == 0)
-        && ulmerascio_is_late(verdict) == (code == 255)
-        && ulmerascio_is_open(verdict) == (code == 254)
-        && ulmerascio_is_pass(verdict) == (code == 0)
-        && ulmerascio_is_fail(verdict) == (code == 255)
-        && ulmerascio_is_refused(verdict) == refused
-        && ulmerascio_refusal(verdict) == (refused ? (int)code : 0)
-        && ulmerascio_place(verdict) == place
-        && (code == 0 || code == 254 || code == 255 || refused);
-}
-
-/* Where the bytes of a table stand; a record has 17 bytes in version 1 and 21 in versions 2 and 3
- * (L4, L9). */
-static size_t record_at(uint8_t version, size_t i)
-{
-    return 5 + (version == 1 ? 17 : 21) * i;
+    return code <= 11 || code == 254 || code == 255;
 }
 
 /* How many delays a record has. */
@@ -181,8 +118,9 @@ static int place_fits(struct table table, uint64_t verdict)
 
 static void check_verdict(struct table table, uint64_t verdict)
 {
-    if (!helpers_agree(verdict)) {
-        printf("c: the header takes verdict %llx apart wrongly\n", (unsigned long long)verdict);
+    check_helpers(verdict);
+    if (!code_known(verdict)) {
+        printf("c: verdict %llx has a code that it cannot have\n", (unsigned long long)verdict);
         exit(1);
     }
     if (!place_fits(table, verdict)) {
@@ -353,7 +291,7 @@ static void call_engine(engine *play, struct table table, size_t answers_len,
                         struct played *played)
 {
     for (size_t i = 0; i < GUARD + LONGEST_SLICE + GUARD; i++)
-        played->answers[i] = filler;
+        played->answers[i] = FILLER;
     played->verdict = play(table.bytes, table.length, played->answers + GUARD, answers_len);
 }
 
@@ -528,31 +466,6 @@ static void try_claims(const char *what, size_t number, struct table table)
         try_kinds(what, number, table, n, &analysed);
 }
 
-static uint8_t *read_file(const char *name, size_t *length)
-{
-    FILE *file = fopen(name, "rb");
-    uint8_t *data = NULL;
-    size_t room = 0, got;
-
-    if (!file) {
-        perror(name);
-        exit(1);
-    }
-    *length = 0;
-    do {
-        room = room ? room * 2 : 65536;
-        data = realloc(data, room);
-        if (!data) {
-            perror(name);
-            exit(1);
-        }
-        got = fread(data + *length, 1, room - *length, file);
-        *length += got;
-    } while (*length == room);
-    fclose(file);
-    return data;
-}
-
 /* All slice lengths on a worked table; only those about n where a call takes many rounds. */
 static void try_slice_lengths(size_t number, struct table table, const struct outcome *first)
 {
@@ -683,19 +596,6 @@ static const struct fault delay_faults[] = {
     {{{53, 0}, {58, 10}}, 7, 53}, /* as the row before it */
 };
 
-/* A copy of the bytes in room for that many, the further ones 0. */
-static uint8_t *copy_bytes(const uint8_t *bytes, size_t length, size_t room)
-{
-    uint8_t *copy = calloc(room, 1);
-
-    if (!copy) {
-        perror("memory");
-        exit(1);
-    }
-    memcpy(copy, bytes, length);
-    return copy;
-}
-
 /* The analysis and the engine, ours and plain C's, are to give this verdict; and the checkers where
  * the analysis refuses. */
 static void expect(const char *what, size_t number, struct table table, uint64_t wanted)
@@ -727,13 +627,6 @@ static void try_places(const char *what, struct table table, const struct fault 
                (uint64_t)list[i].refusal << 32 | list[i].place);
         free(bytes);
     }
-}
-
-static uint8_t *write_word(uint8_t *at, uint32_t word)
-{
-    for (int shift = 24; shift >= 0; shift -= 8)
-        *at++ = (uint8_t)(word >> shift);
-    return at;
 }
 
 /* The same table without delays, and with deadlines of 1 to 4 periods, for the second analysis: the
@@ -1146,48 +1039,6 @@ static void try_claims_file(const char *name)
     free(data);
 }
 
-/* How many tasks and bytes a table of version 2 or 3 may have. */
-static size_t most_tasks(uint8_t version)
-{
-    return version == 3 ? ULMERASCIO_MOST_TASKS : 32;
-}
-
-static size_t longest_length(uint8_t version)
-{
-    return record_at(version, most_tasks(version)) + 6 * 64;
-}
-
-static void write_length(uint8_t *bytes, size_t length)
-{
-    bytes[1] = (uint8_t)(length / 256);
-    bytes[2] = (uint8_t)(length % 256);
-}
-
-/* Version 2 or 3 with the most tasks and 64 rows, two for each of the last 32 tasks, in room for one
- * byte more, which is 0. */
-static uint8_t *longest_table(uint8_t version)
-{
-    uint8_t n = (uint8_t)most_tasks(version), head[] = {version, 0, 0, n, 64};
-    uint8_t *bytes = copy_bytes(head, sizeof head, longest_length(version) + 1);
-    uint8_t *at = bytes + sizeof head;
-
-    write_length(bytes, longest_length(version));
-    for (uint32_t i = 0; i < n; i++) {
-        *at++ = (uint8_t)(n - i);
-        at = write_word(at, 1000 + i);
-        at = write_word(at, 3);
-        at = write_word(at, 1000 + i);
-        at = write_word(at, 5);
-        at = write_word(at, 5 + i);
-    }
-    for (uint32_t r = 0; r < 64; r++) {
-        *at++ = (uint8_t)(n - 32 + r / 2);
-        *at++ = r % 2 ? 16 : 1;
-        at = write_word(at, 2 + r % 2);
-    }
-    return bytes;
-}
-
 /* Its 1,061 or 4,589 bytes are taken, one less or more is refused; and every byte is changed once,
  * in version 3 the last and one in 23 before it. */
 static void try_longest(uint8_t version)
@@ -1412,25 +1263,12 @@ int main(int count, char **words)
     for (; at < length; number++) {
         struct outcome outcome;
         struct table table;
-        size_t answers_len, rounds_len;
+        struct entry entry;
 
-        if (length - at < ENTRY_HEADER) {
-            printf("c: entry %lu is cut short\n", (unsigned long)number);
-            return 1;
-        }
-        table.length = (size_t)data[at] << 8 | data[at + 1];
-        answers_len = data[at + 2];
-        rounds_len = data[at + 3];
-        at += ENTRY_HEADER;
-        if (length - at < table.length || answers_len > LONGEST_SLICE
-            || rounds_len > LONGEST_SLICE) {
-            printf("c: entry %lu is broken\n", (unsigned long)number);
-            return 1;
-        }
-        table.bytes = data + at;
-        at += table.length;
-        outcome = compare("entry", number, table, answers_len, rounds_len);
-        compare_play("entry", number, table, answers_len);
+        at = read_entry(data, length, at, number, &entry);
+        table = entry.table;
+        outcome = compare("entry", number, table, entry.answers_len, entry.rounds_len);
+        compare_play("entry", number, table, entry.answers_len);
         try_claims("entry", number, table);
         if (!ulmerascio_is_refused(outcome.verdict))
             for (size_t shift = 0; shift < 4; shift++)

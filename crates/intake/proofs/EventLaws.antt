@@ -22,11 +22,11 @@ use Rattle.intake.proofs.StateLaws.{fit-short, fit-wrong, fit-ready}
 
 -- ---- What is kept.
 
-keeps-none : (store : List ℕ) → 4590 ≤ length store → Keeps [] (begun store)
+pub keeps-none : (store : List ℕ) → 4590 ≤ length store → Keeps [] (begun store)
 keeps-none store room = record { room = room; fill = omega arith; kept = refl }
 
 module _ {bytes : List ℕ} {state : State} (k : Keeps bytes state) where
-  keeps-ready : conditionOf state ≡ condition.Ready
+  pub keeps-ready : conditionOf state ≡ condition.Ready
   keeps-ready = sym (fit-ready (length (state .store)) (state .fill) (k .room) (omega (arith, k .fill)))
 
   -- a piece is appended: what is kept of it stands behind what is kept of the bytes before
@@ -74,7 +74,7 @@ module _ {bytes : List ℕ} {state : State} (k : Keeps bytes state) where
 
 -- ---- One event after the other.
 
-keeps-taken : {bytes : List ℕ} (state : State) (more : List ℕ) → Keeps bytes state → Keeps (bytes ++ more) (stateOf state (piece more))
+pub keeps-taken : {bytes : List ℕ} (state : State) (more : List ℕ) → Keeps bytes state → Keeps (bytes ++ more) (stateOf state (piece more))
 keeps-taken {bytes} state more k = subst (λ (s : State). Keeps (bytes ++ more) s) (sym (taken k more)) (keeps-more k more)
 
 -- any end leaves a store that is long enough fresh

@@ -1,19 +1,20 @@
 -- What a store and its fill are fit for, and what one call leaves.
 -- Assumes nothing.
-use Prim.Native.Nat.{ℕ, _+_, _-_, _≤_, _<_, min}
+use Prim.Native.Nat.{ℕ, _+_, _-_, _≤_, _<_}
 use native.Mathlib.Omega.{arith}
 use mathlib.Core.Path.{_≡_, refl, sym, _∙_, ap}
 use mathlib.Core.Bool.{Bool, true, false}
 use mathlib.Core.Logic.{inl, inr}
-use mathlib.Core.List.{List}
-use lib.ListN.{length, take, length-take}
+use mathlib.Core.List.{List, _++_}
+use lib.ListN.{length, take, drop, length-take}
+use lib.Seq.{length-take-le}
 use borrow.Author.Tests.{lt-ltb, le-ltb}
 use Rattle.model.proofs.Tests.{ltb?, clash}
 use Rattle.equation.specs.declared.Start.the-variants.{EveryCost}
 use Rattle.answering.specs.declared.Verdict.{Verdict}
 use Rattle.response.specs.Outcome.{lending, leaving, Outcome}
 use Rattle.printing.specs.Appended.{Appended, bytesAfter}
-use Rattle.printing.proofs.AppendLaws.{take-min}
+use Rattle.printing.proofs.AppendLaws.{in-part}
 use Rattle.intake.specs.declared.Condition.{Condition}
 use Rattle.intake.specs.declared.Condition.the-variants.{Ready, ShortStore, WrongFill}
 use Rattle.intake.specs.declared.Ended.the-variants as said
@@ -59,24 +60,21 @@ module _ (store : List ℕ) (fill : ℕ) {condition : Condition} (fit : conditio
     pub kept-within : fill ≤ length store
     kept-within = omega (arith, ready-means (length store) fill is-ready)
 
-    pub takes : {piece new : List ℕ} {count end : ℕ} → count ≡ min (length piece) (4590 - fill) → Appended store fill (take count piece) end new →
-        Takes (held store fill) piece condition (held new end)
-    takes {piece} {new} {count} {end} room a =
-        let same : take count piece ≡ roomy (held store fill) piece = ap (λ (k : ℕ). take k piece) room ∙ take-min (4590 - fill) piece in
-        let stored : new ≡ bytesAfter store fill (roomy (held store fill) piece) =
-        a .newIs ∙ ap (λ (xs : List ℕ). bytesAfter store fill xs) same in
+    pub store-long : 4590 ≤ length store
+    store-long = ready-means (length store) fill is-ready .0
+
+    pub takes : {piece new : List ℕ} {end : ℕ} → Appended (take 4590 store) fill piece end new →
+        Takes (held store fill) piece condition (held (new ++ drop 4590 store) end)
+    takes {piece} {new} {end} a =
+        let stored : new ++ drop 4590 store ≡ bytesAfter store fill (roomy (held store fill) piece) =
+        ap (λ (xs : List ℕ). xs ++ drop 4590 store) (a .newIs) ∙ in-part 4590 store fill piece taken-within store-long in
         let filled : end ≡ fill + length (roomy (held store fill) piece) =
-        omega (
-          arith,
-          a .endIs,
-          ap (λ (xs : List ℕ). length xs) same,
-          length-take (4590 - fill) piece,
-          ready-means (length store) fill is-ready,
-        )
-        in
+        omega (arith, a .endIs, length-take (4590 - fill) piece, length-take-le 4590 store store-long, taken-within) in
         record {
           conditionIs = fit;
-          stateIs = rw (sym is-ready) (ap (λ (xs : List ℕ). held xs end) stored ∙ ap (held (bytesAfter store fill (roomy (held store fill) piece))) filled);
+          stateIs =
+              rw (sym is-ready)
+              (ap (λ (xs : List ℕ). held xs end) stored ∙ ap (held (bytesAfter store fill (roomy (held store fill) piece))) filled);
         }
 
     pub answers-kept : {answers rounds answersNow roundsNow : List ℕ} {verdict : Verdict} →

@@ -2,8 +2,6 @@
 // the table has ended gives the answer that the whole bytes would get. The store that keeps them, and its fill, which says how many it
 // keeps, are the caller's.
 ghost use mathlib.Core.Path.{_≡_};
-ghost use Prim.Native.Nat.{_-_, _≤_, min};
-ghost use Rattle.tables.specs.FirstBytes.{mostKept};
 ghost use Rattle.intake.specs.Intake.{held, begunFill, conditionFor, fillAfter, Takes, Answers, Ends};
 use printing::append;
 use response::Verdict;
@@ -45,8 +43,7 @@ pub fn take(store: &mut [u8], fill: &mut usize, piece: &[u8]) -> Condition
     let condition = fitness(store.len(), at);
     match condition {
         Condition::Ready => {
-            let count = room_for(piece.len(), at);
-            *fill = append(store, at, &piece[..count]);
+            *fill = append(&mut store[..MOST_KEPT], at, piece);
         }
         Condition::ShortStore => {}
         Condition::WrongFill => {}
@@ -86,15 +83,6 @@ fn fitness(store: usize, fill: usize) -> Condition
         return Condition::WrongFill;
     }
     Condition::Ready
-}
-
-// How many of `count` bytes are kept, behind those that are.
-fn room_for(count: usize, fill: usize) -> usize
-    requires { ⌜ fill ≤ mostKept ⌝ }
-    ensures { λ r. ⌜ r ≡ min count (mostKept - fill) ⌝ }
-{
-    let room = MOST_KEPT - fill;
-    if room < count { room } else { count }
 }
 
 // How many bytes are kept behind the end. Those in a short store are not lost: they can still be copied into a longer one.

@@ -8,7 +8,7 @@ use native.Mathlib.Decide.{decLe}
 use mathlib.Core.Path.{_≡_, refl, sym, _∙_, ap, subst}
 use mathlib.Core.List.{List, [], _∷_, _++_, append-assoc, append-nil}
 use lib.ListN.{length, take, drop, set, getD, length-set, length-take, length-drop, length-append, drop-of-length-le, take-append-drop}
-use lib.Seq.{paste, paste-zero, paste-suc, take-all, take-length, take-at, drop-at, take-nil, drop-drop, length-take-le}
+use lib.Seq.{paste, paste-zero, paste-suc, take-all, take-length, take-at, take-take, drop-at, take-nil, drop-drop, drop-append-le, length-take-le}
 use Rattle.printing.specs.Appended.{endAfter, bytesAfter, Appended, NoSecondText}
 
 pub noSecondText : NoSecondText
@@ -160,7 +160,7 @@ copied-more {old} {at} {bytes} {count} {i} {new} c h =
     }
 
 -- no more is taken than there is
-pub take-min : (n : ℕ) (xs : List ℕ) → take (min (length xs) n) xs ≡ take n xs
+take-min : (n : ℕ) (xs : List ℕ) → take (min (length xs) n) xs ≡ take n xs
 take-min n xs =
     elim (decLe (length xs) n) [
       | yes h ↦
@@ -199,6 +199,32 @@ copied-all {old} {at} {bytes} {count} {i} {new} c h =
 -- the same bytes, otherwise written
 pub as-text : {old new more same : List ℕ} {at end : ℕ} → Appended old at more end new → more ≡ same → Appended old at same end new
 as-text {old} {new} {more} {same} {at} {end} a e = subst (λ (xs : List ℕ). Appended old at xs end new) e a
+
+-- in the first n bytes of the buffer: as if no more were appended than has room there
+module _ (n : ℕ) (old : List ℕ) (at : ℕ) (more : List ℕ) (h : at ≤ n) (room : n ≤ length old) where
+  part-behind : drop (at + length more) (take n old) ++ drop n old ≡ drop (at + length (take (n - at) more)) old
+  part-behind =
+      elim (decLe (at + length more) n) [
+        | yes fits ↦
+            let e : at + length more ≡ at + length (take (n - at) more) = omega (arith, length-take (n - at) more) in
+            sym (drop-append-le (at + length more) (take n old) (drop n old) (omega (arith, length-take-le n old room)))
+            ∙ ap (drop (at + length more)) (take-append-drop n old)
+            ∙ ap (λ (k : ℕ). drop k old) e
+        | no cut ↦
+            let e : n ≡ at + length (take (n - at) more) = omega (arith, length-take (n - at) more) in
+            ap (λ (xs : List ℕ). xs ++ drop n old) (drop-past (at + length more) (take n old) (omega (arith, length-take-le n old room)))
+            ∙ ap (λ (k : ℕ). drop k old) e
+      ]
+
+  pub in-part : bytesAfter (take n old) at more ++ drop n old ≡ bytesAfter old at (take (n - at) more)
+  in-part =
+      let e : length (take n old) - at ≡ n - at = omega (arith, length-take-le n old room) in
+      append-assoc (take at (take n old) ++ take (length (take n old) - at) more) (drop (at + length more) (take n old)) (drop n old)
+      ∙ ap (λ (xs : List ℕ). take at (take n old) ++ take (length (take n old) - at) more ++ xs) part-behind
+      ∙ ap (λ (xs : List ℕ). xs ++ take (length (take n old) - at) more ++ drop (at + length (take (n - at) more)) old) (take-take at n old h)
+      ∙ ap (λ (k : ℕ). take at old ++ take k more ++ drop (at + length (take (n - at) more)) old) e
+      ∙ ap (λ (xs : List ℕ). take at old ++ xs ++ drop (at + length (take (n - at) more)) old)
+      (sym (take-all (length old - at) (take (n - at) more) (omega (arith, length-take (n - at) more))))
 
 -- a text that began within the buffer ends within it, so that it can be lent as a part
 pub ends-within : {old new more : List ℕ} {at end : ℕ} → Appended old at more end new → at ≤ length old → end ≤ length new

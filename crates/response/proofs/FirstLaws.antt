@@ -18,7 +18,7 @@ module _ (bytes : List ℕ) (refusal : Refusal) (e : headCheck bytes ≡ Refused
   refused : (answers rounds : ℕ) → tableCheck bytes answers rounds ≡ Refused refusal
   refused answers rounds = read-decides 1 bytes answers rounds refusal (head-decides 1 bytes refusal (sym e))
 
-  refused-verdict : (answers rounds : ℕ) → verdictOf bytes answers rounds ≡ verdict.Refused refusal
+  pub refused-verdict : (answers rounds : ℕ) → verdictOf bytes answers rounds ≡ verdict.Refused refusal
   unfolding verdictOf
   refused-verdict answers rounds = rw (refused answers rounds) refl
 

@@ -5,3 +5,4 @@ pub mod PastExampleLaws
 pub mod SampleForms
 pub mod TextExampleLaws
 pub mod SampleReports
+pub mod SampleCable

@@ -5,3 +5,4 @@ pub mod PastExamples
 pub mod FormSamples
 pub mod TextExamples
 pub mod ReportSamples
+pub mod CableSample

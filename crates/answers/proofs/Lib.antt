@@ -1,0 +1,2 @@
+pub mod ReadLaws
+pub mod TextLaws
