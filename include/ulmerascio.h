@@ -45,10 +45,10 @@
  *     ulmerascio_check_claims           5,800    0.011     0.29           0.55          0.6
  *     ulmerascio_analyse_past_period    6,700    0.023     0.46     116,000    42,000,000
  *     ulmerascio_intake_begin               8    2 instructions
- *     ulmerascio_intake_take               40    0.0003    0.0012         0.0012        0.0012
+ *     ulmerascio_intake_take               40    0.0003    0.0011         0.0011        0.0012
  *     ulmerascio_intake_end             6,800    0.06      1.2        3,520       650,000
  *
- * ulmerascio_intake_take is that of a whole table in one piece; a single byte takes 52 instructions.
+ * ulmerascio_intake_take is that of a whole table in one piece; a single byte takes 48 instructions.
  *
  * The stack was measured, and agrees with what the machine code takes; the numbers are rounded up.
  * To them comes what memset itself uses: next to nothing, but some 3,000 bytes at the first call in

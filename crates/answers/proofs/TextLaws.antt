@@ -4,7 +4,7 @@ use Prim.Native.Nat.{ℕ, _≤_}
 use mathlib.Core.Path.{_≡_, refl, sym, _∙_, ap}
 use mathlib.Core.Bool.{Bool, true, false}
 use mathlib.Core.List.{List}
-use lib.ListN.{length, take}
+use lib.ListN.{length}
 use Rattle.model.proofs.Tests.{clash}
 use Rattle.equation.specs.declared.Start.the-variants.{EveryCost}
 use Rattle.answering.specs.declared.Verdict.{Verdict}

@@ -1,6 +1,6 @@
 -- Whatever happens, the store keeps the first 4,590 bytes since the end before, and these get the answer of all.
 -- Assumes nothing.
-use Prim.Native.Nat.{ℕ, _+_, _-_, _≤_, _<_, min}
+use Prim.Native.Nat.{ℕ, _+_, _-_, _≤_, _<_}
 use native.Mathlib.Omega.{arith}
 use native.Mathlib.Decide.{decLe}
 use mathlib.Core.Path.{_≡_, refl, sym, _∙_, ap, subst}
@@ -9,7 +9,6 @@ use lib.ListN.{length, take, length-take, length-append}
 use lib.Seq.{take-all, take-nil}
 use Rattle.tables.specs.FirstBytes.{keptOf}
 use Rattle.equation.specs.declared.Start.the-variants.{EveryCost}
-use Rattle.response.specs.Outcome.{verdictOf, answersAfter, roundsAfter}
 use Rattle.response.proofs.FirstLaws.{firstBytes}
 use Rattle.printing.specs.Appended.{Appended, bytesAfter}
 use Rattle.printing.proofs.AppendLaws.{long, text-is, take-both, nothing}
@@ -17,7 +16,7 @@ use Rattle.intake.specs.declared.Condition.{Condition}
 use Rattle.intake.specs.declared.Condition.the-variants as condition
 use Rattle.intake.specs.declared.Ended.the-variants as said
 use Rattle.intake.specs.Intake.{State, held, begun, conditionOf, ifReady, roomy, withPiece, bytesIn}
-use Rattle.intake.specs.Events.{Event, piece, end, Reply, took, gave, replyOf, stateOf, repliesOf, stateAfter, answerTo, repliesTo, AnyEvents, sinceEnd, Keeps, AlwaysKept, AnyPieces, SameBytes, FreshAgain, NothingTaken, shortReply, Stays, ShortStores, Rejected, WrongFills}
+use Rattle.intake.specs.Events.{Event, piece, end, Reply, took, replyOf, stateOf, repliesOf, stateAfter, answerTo, repliesTo, AnyEvents, sinceEnd, Keeps, AlwaysKept, AnyPieces, SameBytes, FreshAgain, AlwaysFresh, NothingTaken, shortReply, ShortStores, WrongFills}
 use Rattle.intake.proofs.StateLaws.{fit-short, fit-wrong, fit-ready}
 
 -- ---- What is kept.
@@ -179,6 +178,18 @@ module _ (state : State) (short : length (state .store) < 4590) where
 
 pub shortStores : ShortStores
 shortStores state events short = record { replies = short-replies state short events; left = short-after state short events }
+
+-- a store is short, or it keeps what came
+pub alwaysFresh : AlwaysFresh
+alwaysFresh store events answers rounds =
+    elim (decLe 4590 (length store)) [
+      | yes room ↦
+          ap (λ (s : State). s .fill) (freshAgain (stateAfter (begun store) events) answers rounds (alwaysKept store events room .room))
+      | no short ↦
+          let small : length store < 4590 = omega (arith, short) in
+          ap (λ (s : State). stateOf s (end answers rounds) .fill) (short-after (begun store) small events)
+          ∙ ap (λ (s : State). s .fill) (short-state (begun store) small (end answers rounds))
+    ]
 
 pub wrongFills : WrongFills
 wrongFills state room wrong =

@@ -19,7 +19,7 @@ use Rattle.intake.specs.declared.Condition.{Condition}
 use Rattle.intake.specs.declared.Condition.the-variants.{Ready, ShortStore, WrongFill}
 use Rattle.intake.specs.declared.Ended.the-variants as said
 use Rattle.intake.specs.declared.Ended.{Ended}
-use Rattle.intake.specs.Intake.{State, held, conditionFor, roomy, fillAfter, Takes, Answers, Ends, NoSecondTake, NoSecondEnd, EdgesDrawn}
+use Rattle.intake.specs.Intake.{held, conditionFor, roomy, fillAfter, Takes, Answers, NoSecondTake, NoSecondEnd, EdgesDrawn}
 
 isReady : Condition → Bool
 isReady Ready = true

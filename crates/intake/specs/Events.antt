@@ -12,7 +12,7 @@ use Rattle.intake.specs.declared.Condition.{Condition}
 use Rattle.intake.specs.declared.Condition.the-variants as condition
 use Rattle.intake.specs.declared.Ended.{Ended}
 use Rattle.intake.specs.declared.Ended.the-variants as said
-use Rattle.intake.specs.Intake.{State, held, begun, conditionOf, takenBy, bytesIn, endedBy, answersLeft, roundsLeft, fillAfter}
+use Rattle.intake.specs.Intake.{State, held, begunFill, begun, conditionOf, takenBy, bytesIn, endedBy, answersLeft, roundsLeft, fillAfter}
 
 -- What can happen: a piece arrives, or the sender says that the table has ended, and both slices are lent as they are.
 pub data Event : Type 0 where
@@ -55,7 +55,8 @@ repliesTo since [] = []
 repliesTo since (piece bytes ∷ events) = took condition.Ready ∷ repliesTo (since ++ bytes) events
 repliesTo since (end answers rounds ∷ events) = answerTo since answers rounds ∷ repliesTo [] events
 
--- The theorem of document 02, L11: for every list of events, from the beginning, with any store that is long enough.
+-- The theorem of document 02, L11: for every list of events, from the beginning, with any store that is long enough. (Whoever calls `begin`
+-- between them begins anew, with the store as it then is.)
 abbrev pub AnyEvents : Type 0
 AnyEvents = (store : List ℕ) (events : List Event) → mostKept ≤ length store → repliesOf (begun store) events ≡ repliesTo [] events
 
@@ -94,6 +95,12 @@ SameBytes =
 -- was.
 abbrev pub FreshAgain : Type 0
 FreshAgain = (state : State) (answers rounds : List ℕ) → mostKept ≤ length (state .store) → stateOf state (end answers rounds) ≡ begun (state .store)
+
+-- and so it is after an end that any events go before, from the beginning, in any store, however short
+abbrev pub AlwaysFresh : Type 0
+AlwaysFresh =
+    (store : List ℕ) (events : List Event) (answers rounds : List ℕ) →
+    stateOf (stateAfter (begun store) events) (end answers rounds) .fill ≡ begunFill
 
 -- An empty piece changes nothing, in any state.
 abbrev pub NothingTaken : Type 0

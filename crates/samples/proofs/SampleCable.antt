@@ -1,6 +1,5 @@
 -- The morning on a cable: each end is answered for its bytes alone, and these are computed.
 -- Assumes nothing.
-use Prim.Native.Nat.{ℕ}
 use mathlib.Core.Path.{_≡_, refl, _∙_}
 use mathlib.Core.List.{[]}
 use Rattle.model.specs.Lists.{tabulate, gather, sumOf, largestOf}

@@ -1,7 +1,7 @@
 -- Bytes whose first five are the same, and whose length no table with such a head has, are refused alike; so a table is judged by its first
 -- 4,590 bytes.
 -- Assumes nothing.
-use Prim.Native.Nat.{ℕ, _+_, _*_, _≤_, _<_}
+use Prim.Native.Nat.{ℕ, _≤_}
 use native.Mathlib.Omega.{arith}
 use native.Mathlib.Nat.{mul-le-mul}
 use native.Mathlib.Decide.{decLe}

@@ -1,4 +1,4 @@
--- `answers::answer` meets its contract.
+-- `answers::answer` meets its contract: the store can be used, and so there is an answer, whose text has room.
 -- Assumes nothing.
 use mathlib.Core.Path.{refl}
 use Rattle.printing.proofs.AppendLaws.{part-length}

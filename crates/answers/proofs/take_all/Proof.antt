@@ -1,4 +1,4 @@
--- `answers::take_all` meets its contract.
+-- `answers::take_all` meets its contract: each piece is taken, and what is kept is what is kept of all that was read.
 -- Assumes nothing.
 use Prim.Native.Nat.{_-_}
 use native.Mathlib.Omega.{arith}

@@ -1,4 +1,4 @@
--- `intake::answer` meets its contract.
+-- `intake::answer` meets its contract: the bytes that are kept are analysed, or it is said why not.
 -- Assumes nothing.
 use Rattle.printing.proofs.AppendLaws.{part-length}
 use Rattle.intake.proofs.StateLaws.{kept-within, answers-kept, answers-short, answers-wrong}

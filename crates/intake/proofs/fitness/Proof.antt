@@ -1,4 +1,4 @@
--- `intake::fitness` meets its contract.
+-- `intake::fitness` meets its contract, in its three cases.
 -- Assumes nothing.
 use Rattle.intake.proofs.StateLaws.{fit-short, fit-wrong, fit-ready}
 use Rattle.intake.proofs.fitness.Statement.{statement}

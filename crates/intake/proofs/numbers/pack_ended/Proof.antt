@@ -1,4 +1,4 @@
--- `intake::numbers::pack_ended` meets its contract.
+-- `intake::numbers::pack_ended` meets its contract, in its three cases: the place of a verdict is small.
 -- Assumes nothing.
 use Rattle.intake.proofs.NumberLaws.{answered-place, number-answered, number-short, number-wrong}
 use borrow.Author.Needs.{needs}

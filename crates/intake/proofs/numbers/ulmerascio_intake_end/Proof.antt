@@ -1,4 +1,4 @@
--- `intake::numbers::ulmerascio_intake_end` meets its contract.
+-- `intake::numbers::ulmerascio_intake_end` meets its contract: it ends the table, and packs what is said.
 -- Assumes nothing.
 use Rattle.intake.proofs.NumberLaws.{ended-place, numbered-end}
 use borrow.Author.Needs.{needs}

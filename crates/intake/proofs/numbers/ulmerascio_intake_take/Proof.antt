@@ -1,4 +1,4 @@
--- `intake::numbers::ulmerascio_intake_take` meets its contract.
+-- `intake::numbers::ulmerascio_intake_take` meets its contract: it takes the piece, and returns the number of what is said.
 -- Assumes nothing.
 use Rattle.intake.proofs.NumberLaws.{numbered-take}
 use borrow.Author.Needs.{needs}
