@@ -32,7 +32,7 @@ abbrev pub begun : List ℕ → State
 begun store = held store begunFill
 
 -- A store is too short if it could not keep 4,590 bytes, however many come; and a fill is wrong if it is above that, as none is that a call
--- leaves.
+-- sets. (One that somebody else has set, and that is not above it, can't be told from a right one.)
 abbrev pub conditionFor : ℕ → ℕ → Condition
 conditionFor long fill = pick (ltb long mostKept) ShortStore (pick (ltb mostKept fill) WrongFill Ready)
 

@@ -17,7 +17,7 @@ pub enum Condition {
     Ready,
     // the store has fewer bytes than may have to be kept
     ShortStore,
-    // more bytes are said to be kept than ever are: nobody has begun
+    // more bytes are said to be kept than ever are: nobody has begun, or the fill was overwritten
     WrongFill,
 }
 
@@ -35,7 +35,8 @@ pub fn begin(fill: &mut usize)
     *fill = 0;
 }
 
-// Takes a piece of a table. Bytes after the 4,590th are dropped, and what is kept is copied once.
+// Takes a piece of a table, if the store and the fill can be used; else the piece is still to be taken. Bytes after the 4,590th are dropped,
+// and what is kept is copied once.
 pub fn take(store: &mut [u8], fill: &mut usize, piece: &[u8]) -> Condition
     ensures { λ r. ⌜ Takes (held (now (store .entry)) (now (fill .entry))) (now (piece .entry)) r (held (now (store .exit)) (now (fill .exit))) ⌝ }
 {

@@ -9,7 +9,7 @@ use crate::Ended;
 use response::pack;
 
 // The condition's number: 0 where it is ready.
-pub fn code(condition: Condition) -> u32
+fn code(condition: Condition) -> u32
     ensures { λ r. ⌜ r ≡ conditionCode condition ⌝ }
 {
     match condition {
