@@ -1,19 +1,17 @@
 -- The numbers that C gets.
 -- Assumes nothing.
-use Prim.Native.Nat.{ℕ, _*_, _≤_, _<_}
+use Prim.Native.Nat.{ℕ, _*_, _<_}
 use native.Mathlib.Omega.{arith}
 use mathlib.Core.Path.{_≡_, refl, sym, _∙_, ap, subst}
 use mathlib.Core.Logic.{_≢_}
 use mathlib.Core.List.{List}
 use lib.ListN.{length}
-use Rattle.tables.specs.declared.Refusal.{Refusal}
-use Rattle.tables.specs.declared.Refusal.the-variants.{TooShort, UnknownVersion, CountOutOfRange, LengthsDiffer, NumberOutOfRange, PriorityOutOfOrder, SectionRow, NoRoom, NotPlayable}
-use Rattle.tables.specs.Refusals.{numberOf}
 use Rattle.answering.specs.declared.Verdict.{Verdict}
 use Rattle.answering.specs.declared.Verdict.the-variants as verdict
 use Rattle.response.specs.Verdicts.{codeOf, verdictPlace, packed}
 use Rattle.response.specs.Outcome.{verdictOf}
 use Rattle.response.proofs.PlaceLaws.{verdict-place}
+use Rattle.printing.proofs.LongestLaws.{number-small}
 use Rattle.intake.specs.declared.Condition.{Condition}
 use Rattle.intake.specs.declared.Condition.the-variants.{Ready, ShortStore, WrongFill}
 use Rattle.intake.specs.declared.Ended.{Ended}
@@ -54,20 +52,8 @@ pub numbered-take : {state : State} {piece : List ℕ} {condition : Condition} {
     n ≡ conditionCode condition → NumberedTake state piece n left
 numbered-take {condition = condition} t p = record { condition = condition; takes = t; numberIs = p }
 
--- no refusal has a number above 9
-refusal-small : (refusal : Refusal) → numberOf refusal ≤ 9
-refusal-small TooShort = omega arith
-refusal-small UnknownVersion = omega arith
-refusal-small (CountOutOfRange place) = omega arith
-refusal-small LengthsDiffer = omega arith
-refusal-small (NumberOutOfRange place) = omega arith
-refusal-small (PriorityOutOfOrder place) = omega arith
-refusal-small (SectionRow place) = omega arith
-refusal-small NoRoom = omega arith
-refusal-small NotPlayable = omega arith
-
 own : (verdict : Verdict) → (codeOf verdict ≢ conditionCode ShortStore) × (codeOf verdict ≢ conditionCode WrongFill)
-own (verdict.Refused refusal) = (λ e. omega (arith, e, refusal-small refusal), λ e. omega (arith, e, refusal-small refusal))
+own (verdict.Refused refusal) = (λ e. omega (arith, e, number-small refusal), λ e. omega (arith, e, number-small refusal))
 own verdict.Schedulable = (λ e. omega (arith, e), λ e. omega (arith, e))
 own (verdict.Late place) = (λ e. omega (arith, e), λ e. omega (arith, e))
 

@@ -42,7 +42,7 @@ use Rattle.printing.proofs.AppendLaws.{text-is, behind, part-length}
 use Rattle.printing.proofs.LengthLaws.{digitCount, few-digits, seven-digits, line-long, place-line-long, refusal-long, Small, lineRoom, lines-long}
 
 -- a refusal's line
-number-small : (refusal : Refusal) → numberOf refusal ≤ 9
+pub number-small : (refusal : Refusal) → numberOf refusal ≤ 9
 number-small TooShort = omega arith
 number-small UnknownVersion = omega arith
 number-small (CountOutOfRange place) = omega arith
