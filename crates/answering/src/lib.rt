@@ -14,7 +14,7 @@ use solver::solve;
 use tables::Refusal;
 
 // What is said of a table.
-#[derive(Drop)]
+#[derive(Clone, Copy)]
 pub enum Verdict {
     Refused(Refusal),
     Schedulable,
@@ -36,7 +36,7 @@ fn with_answer(verdict: Verdict, late: bool, at: Place) -> Verdict
 }
 
 // What is known of the tasks that share a task's priority, its group.
-#[derive(Drop)]
+#[derive(Clone, Copy)]
 pub struct Group {
     // the task's loads are those of so many places, without its own
     pub count: usize,

@@ -10,7 +10,7 @@ use intake::{Ended, MOST_KEPT};
 use libc::{STDIN_FILENO, STDOUT_FILENO};
 
 // How many bytes were read in all, and by the last read: none at the end of the input.
-#[derive(Drop)]
+#[derive(Clone, Copy)]
 struct Read {
     total: usize,
     last: usize,

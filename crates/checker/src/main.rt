@@ -13,7 +13,7 @@ use scanning::Scan;
 const MOST_TEXT: usize = 9223372036854775808;
 
 // The list's text, gone through, or why it was not.
-#[derive(Drop)]
+#[derive(Clone, Copy)]
 enum List {
     // a read failed
     Failed,
@@ -22,7 +22,7 @@ enum List {
 }
 
 // Behind what a read gave: the list is gone through, or goes on.
-#[derive(Drop)]
+#[derive(Clone, Copy)]
 enum Step {
     Ended(Scan),
     More(Scan),

@@ -24,7 +24,7 @@ use tables::fields::count;
 use tables::{Check, ONE_PERIOD, Refusal, TASK_COUNT_AT};
 
 // What is said of a list of claims.
-#[derive(Drop)]
+#[derive(Clone, Copy)]
 pub enum Claimed {
     // the table breaks a rule: refusals 1 to 7
     Refused(Refusal),

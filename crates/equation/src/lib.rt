@@ -10,7 +10,7 @@ ghost use Rattle.equation.specs.Starts.{first_term};
 use model::Ticks;
 
 // Where the written sequence starts (SPECIFICATION 5.1; document 02, L5). Both starts lead to the same answers; the rounds differ.
-#[derive(Drop)]
+#[derive(Clone, Copy)]
 pub enum Start {
     // The default: the task's cost and blocking, and one cost of every task that interferes with it, as source document 002 has it.
     EveryCost,

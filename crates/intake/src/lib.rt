@@ -13,7 +13,7 @@ mod numbers;
 pub const MOST_KEPT: usize = 4590;
 
 // Whether a store and its fill can be used.
-#[derive(Drop)]
+#[derive(Clone, Copy)]
 pub enum Condition {
     Ready,
     // the store has fewer bytes than may have to be kept
@@ -23,7 +23,7 @@ pub enum Condition {
 }
 
 // What is said when a table has ended.
-#[derive(Drop)]
+#[derive(Clone, Copy)]
 pub enum Ended {
     Answered(Verdict),
     ShortStore,

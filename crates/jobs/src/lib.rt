@@ -7,7 +7,7 @@ use model::{OPEN, Ticks, larger};
 use solver::{ends_at_once, follow};
 
 // What the slices get for one task: its longest response time, or 0 for late, or OPEN; and the number of q tried.
-#[derive(Drop)]
+#[derive(Clone, Copy)]
 pub struct Words {
     pub answer: u32,
     pub tried: u32,

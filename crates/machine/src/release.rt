@@ -9,7 +9,7 @@ use crate::words::{TASKS, mask};
 use model::{Place, Ticks};
 
 // A ready word with what is released, and the earliest tick at which a task of it is due again.
-#[derive(Drop)]
+#[derive(Clone, Copy)]
 struct Released {
     ready: u64,
     next: Ticks,

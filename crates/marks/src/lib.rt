@@ -9,7 +9,7 @@ use model::Ticks;
 
 // A count of ticks, raised by the greatest spread. So no mark is below 0, though a load whose spread is longer than its period begins
 // more than one period in every w.
-#[derive(Drop)]
+#[derive(Clone, Copy)]
 pub struct Mark(pub u32);
 
 const RAISE: u32 = 1000000;
@@ -18,7 +18,7 @@ const RAISE: u32 = 1000000;
 const NEVER: u32 = 4294967295;
 
 // The running sum of what is asked for, and a mark that no load's mark is below.
-#[derive(Drop)]
+#[derive(Clone, Copy)]
 pub struct Tally {
     pub sum: u64,
     pub least: Mark,
@@ -98,7 +98,7 @@ fn next_below(marks: &[u32], end: usize, least: Mark, from: usize) -> usize
 }
 
 // Where a mark stands once w has come, and what the load asks for on the way.
-#[derive(Drop)]
+#[derive(Clone, Copy)]
 struct Step {
     mark: Mark,
     more: u64,

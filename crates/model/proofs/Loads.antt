@@ -35,7 +35,9 @@ unfolding total
 total_other f i zero h = absurd (omega arith)
 total_other f i (suc n) h =
     elim (ℕ_discrete i n) [
-      | yes e ↦ rw (e, other_own n) (omega (arith, all_others f n n (omega arith)))
+      | yes e ↦
+          let own : is_other i n ≡ false = rw (eq-eqb n i (sym e)) refl in
+          rw own (omega (arith, all_others f i n (omega arith), ap f e))
       | no d ↦ rw (other_is i n (λ e. d (sym e))) (omega (arith, total_other f i n (omega arith)))
     ]
 

@@ -2,13 +2,13 @@
 // A slice holds plain u32 or u8; a single value is one of these, and crossing from one to another is written out.
 ghost use Rattle.std.specs.Prelude.{◌≡◌, max};
 
-#[derive(Drop)]
+#[derive(Clone, Copy)]
 pub struct Ticks(pub u32);
 
-#[derive(Drop)]
+#[derive(Clone, Copy)]
 pub struct Priority(pub u8);
 
-#[derive(Drop)]
+#[derive(Clone, Copy)]
 pub struct Place(pub usize);
 
 // What an answer slice has for a task that is open: no response time is as long (SPECIFICATION 13.8; document 02, L8).

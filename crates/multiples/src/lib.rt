@@ -11,7 +11,7 @@ use tables::{HEAD_SIZE, PERIOD_AT, TASK_COUNT_AT, VERSION_AT};
 // The largest multiple that is printed.
 const LARGEST: u64 = 1000000000000;
 
-#[derive(Drop)]
+#[derive(Clone, Copy)]
 pub enum Multiple {
     Number(u64),
     Over,

@@ -24,7 +24,7 @@ use tables::fields::count;
 use tables::{Check, FOUR_PERIODS, Refusal, TASK_COUNT_AT};
 
 // What is said of a table.
-#[derive(Drop)]
+#[derive(Clone, Copy)]
 pub enum Found {
     // the table breaks a rule, or a slice is too short: refusals 1 to 8
     Refused(Refusal),

@@ -16,7 +16,7 @@ use tables::{
 };
 
 // One row's numbers.
-#[derive(Drop)]
+#[derive(Clone, Copy)]
 pub struct RowRecord {
     pub place: Place,
     pub semaphore: u8,

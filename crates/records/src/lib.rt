@@ -18,7 +18,7 @@ use tables::{
 const HIGHEST_PRIORITY: u8 = 255;
 
 // One record's numbers.
-#[derive(Drop)]
+#[derive(Clone, Copy)]
 pub struct TaskRecord {
     pub priority: Priority,
     pub period: Ticks,

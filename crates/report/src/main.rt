@@ -13,7 +13,7 @@ use reporting::{Report, Told};
 const MOST_BYTES: usize = 9223372036854775808;
 
 // What became of the input: so many bytes of it were read, to its end, or to where they close the report; or why they were not.
-#[derive(Drop)]
+#[derive(Clone, Copy)]
 enum Input {
     Failed,
     Unwritten,

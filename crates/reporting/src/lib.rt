@@ -21,7 +21,7 @@ pub const STORE: usize = 4589;
 const STATED_AT: usize = 1;
 
 // What is kept between two pieces of the file.
-#[derive(Drop)]
+#[derive(Clone, Copy)]
 pub struct Report {
     pub schedulable: u64,
     pub late: u64,
@@ -33,7 +33,7 @@ pub struct Report {
 }
 
 // What is kept, and where the text ends.
-#[derive(Drop)]
+#[derive(Clone, Copy)]
 pub struct Told {
     pub report: Report,
     pub end: usize,

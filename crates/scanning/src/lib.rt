@@ -9,18 +9,18 @@ ghost use Rattle.scanning.specs.Pieces.{start, More, Within, stuck, Ended, Passe
 const LARGEST: u64 = 4294967295;
 
 // A byte's place in a text, counted from its first byte.
-#[derive(Drop)]
+#[derive(Clone, Copy)]
 pub struct TextPlace(pub usize);
 
 // What a text holds: so many numbers, or something that can't be read, with its first byte.
-#[derive(Drop)]
+#[derive(Clone, Copy)]
 pub enum Scanned {
     Numbers(usize),
     Unreadable(TextPlace),
 }
 
 // What stands before the next byte: no number, one that began at a place and has a value so far, or something that can't be read.
-#[derive(Drop)]
+#[derive(Clone, Copy)]
 pub enum State {
     Outside,
     Inside(TextPlace, u32),
@@ -28,7 +28,7 @@ pub enum State {
 }
 
 // How far a text is gone through: what stands before the next byte, that byte's place, and how many numbers ended before it.
-#[derive(Drop)]
+#[derive(Clone, Copy)]
 pub struct Scan {
     pub state: State,
     pub at: TextPlace,

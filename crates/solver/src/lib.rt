@@ -9,7 +9,7 @@ use marks::{Mark, Tally};
 use model::Ticks;
 
 // Whether a task is late, its longest response time, 0 where it is, and the rounds spent on it.
-#[derive(Drop)]
+#[derive(Clone, Copy)]
 pub struct Solved {
     pub late: bool,
     pub response: Ticks,
@@ -18,7 +18,7 @@ pub struct Solved {
 
 // What following the sequence comes to: whether it is late, and else its last term, which is the smallest solution; the rounds; and a mark that
 // none of the loads' marks is below.
-#[derive(Drop)]
+#[derive(Clone, Copy)]
 pub struct Followed {
     pub late: bool,
     pub window: Ticks,

@@ -3,13 +3,13 @@ ghost use Rattle.std.specs.Prelude.{◌≡◌};
 ghost use Rattle.tables.specs.Layout.{layout_for};
 
 // Which delays a record has: J alone, which is the latest delay, or the earliest and then the latest.
-#[derive(Drop)]
+#[derive(Clone, Copy)]
 pub enum DelayFields {
     Jitter,
     Pair,
 }
 
-#[derive(Drop)]
+#[derive(Clone, Copy)]
 pub struct Layout {
     // does the reader know the version?
     pub known: bool,

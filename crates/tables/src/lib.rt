@@ -56,12 +56,12 @@ pub const ONE_PERIOD: u32 = 1;
 pub const FOUR_PERIODS: u32 = 4;
 
 // A byte's place in the table, counted from its first byte. It is no task's place.
-#[derive(Drop)]
+#[derive(Clone, Copy)]
 pub struct Offset(pub usize);
 
 // Why a table is refused (SPECIFICATION 3; document 01, "Refusals"), and where a field is at fault its first byte (document 02, L3). The
 // last one is the engine's (SPECIFICATION 9; document 02, L1 and L6): the analysis never gives it.
-#[derive(Drop)]
+#[derive(Clone, Copy)]
 pub enum Refusal {
     TooShort,
     UnknownVersion,
@@ -75,7 +75,7 @@ pub enum Refusal {
 }
 
 // What a check finds.
-#[derive(Drop)]
+#[derive(Clone, Copy)]
 pub enum Check {
     Clean,
     Refused(Refusal),

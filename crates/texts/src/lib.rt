@@ -12,7 +12,7 @@ pub const MOST_TEXT: usize = 576460752303423488;
 
 // What is put into the buffer, and where it ends: what was asked for, or the line for a fault. Nothing is put there for a text that is too
 // long to count its lines.
-#[derive(Drop)]
+#[derive(Clone, Copy)]
 pub enum Given {
     Answer(usize),
     Faulty(usize),

@@ -11,14 +11,14 @@ use machine::{release, words};
 use model::{Place, Ticks, larger};
 
 // The place that a tick serves, and the earliest tick at which a task is due, once the tick's releases are made.
-#[derive(Drop)]
+#[derive(Clone, Copy)]
 struct Begun {
     place: Place,
     next: Ticks,
 }
 
 // The place served in a tick, and what the engine goes on with: the next task's place, and the earliest tick at which a task is due.
-#[derive(Drop)]
+#[derive(Clone, Copy)]
 pub struct Tick {
     pub place: Place,
     pub following: Place,
@@ -159,7 +159,7 @@ pub fn largest(words: &[u32], n: usize) -> Ticks
 }
 
 // Where a play stops: the number of ticks that it played, the next task's place after them, and the earliest tick at which a task is due.
-#[derive(Drop)]
+#[derive(Clone, Copy)]
 pub struct Stopped {
     pub ticks: Ticks,
     pub place: Place,

@@ -12,7 +12,7 @@ use typed::Answer;
 use typing::{Reader, State};
 
 // The text, gone through, or why it was not.
-#[derive(Drop)]
+#[derive(Clone, Copy)]
 enum Text {
     Failed,
     TooLong,

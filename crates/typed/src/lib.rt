@@ -18,7 +18,7 @@ pub mod places;
 pub const LONGEST: usize = 4589;
 
 // What is put into the buffer, and where it ends: the table's bytes, or the line for a fault.
-#[derive(Drop)]
+#[derive(Clone, Copy)]
 pub enum Answer {
     Bytes(usize),
     Faulty(usize),

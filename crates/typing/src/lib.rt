@@ -28,7 +28,7 @@ const TASKS_FROM: usize = 193;
 const PLACES_FROM: usize = 65;
 
 // The line that is read: what stands before it, what it is so far, and its number, from 1 on.
-#[derive(Drop)]
+#[derive(Clone, Copy)]
 pub struct State {
     pub counts: Counts,
     pub line: Line,
@@ -36,7 +36,7 @@ pub struct State {
 }
 
 // How far a text is read: what stands before the next byte, and the line.
-#[derive(Drop)]
+#[derive(Clone, Copy)]
 pub struct Reader {
     pub spot: Spot,
     pub state: State,

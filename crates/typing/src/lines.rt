@@ -29,7 +29,7 @@ const LARGEST_WORD: u64 = 4294967295;
 const LATEST: usize = 5;
 
 // What a line is. A task's line becomes one with jitter or with delays at that word.
-#[derive(Drop)]
+#[derive(Clone, Copy)]
 pub enum Kind {
     VersionLine,
     TaskLine,
@@ -39,7 +39,7 @@ pub enum Kind {
 }
 
 // Why a text can't be read.
-#[derive(Drop)]
+#[derive(Clone, Copy)]
 pub enum Fault {
     UnknownWord,
     TooFew,
@@ -54,7 +54,7 @@ pub enum Fault {
 }
 
 // A line so far: no word, so many numbers of a kind, or a fault, which stays.
-#[derive(Drop)]
+#[derive(Clone, Copy)]
 pub enum Line {
     Blank,
     Filling(Kind, usize),
@@ -62,7 +62,7 @@ pub enum Line {
 }
 
 // What stands in the lines before: a version, and whether it is 1; a task with the word `delays`; and how many tasks and sections.
-#[derive(Drop)]
+#[derive(Clone, Copy)]
 pub struct Counts {
     pub stated: bool,
     pub old: bool,

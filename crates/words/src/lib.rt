@@ -18,7 +18,7 @@ pub const TOO_LARGE: u64 = 4294967296;
 pub const NOT_WHOLE: u64 = 4294967297;
 
 // What stands before the next byte: a CR of which it is not known yet whether an LF follows; a comment; the word that is not ended.
-#[derive(Drop)]
+#[derive(Clone, Copy)]
 pub struct Spot {
     pub returned: bool,
     pub commented: bool,

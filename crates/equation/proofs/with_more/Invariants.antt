@@ -1,0 +1,7 @@
+use Prim.Native.Nat.{◌-◌}
+use native.Mathlib.Omega.{arith}
+use Rattle.equation.proofs.SliceLaws.{Summing, summing_none, sum_high, summing_more, summed_all}
+use Rattle.equation.proofs.with_more.Given as goal
+
+abbrev pub invariant-loop-k : goal.invariant-loop-k
+invariant-loop-k l = Summing l.periods l.costs l.spreads l.sum l.from l.to l.w.0 l.k l.all
