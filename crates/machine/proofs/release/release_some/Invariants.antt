@@ -1,0 +1,13 @@
+use Prim.Native.Nat.{◌-◌}
+use native.Mathlib.Omega.{arith}
+use Rattle.model.specs.Lists.{word_of}
+use Rattle.model.proofs.Filling.{Filling, filling_old}
+use Rattle.machine.specs.Machine.{left_with, due_with}
+use Rattle.machine.proofs.ReleaseLaws.{Releasing, releasing_none, releasing_more, left_none, due_none, left_more, due_more, some_released}
+use Rattle.machine.proofs.release.release_some.Given as goal
+
+abbrev pub invariant-loop-p : goal.invariant-loop-p
+invariant-loop-p l =
+    Releasing l.periods l.costs l.at.0 l.initial.left l.initial.due l.first l.to l.ready l.p l.word l.earliest.0
+    × Filling (left_with (word_of l.costs) (word_of l.initial.due) l.at.0 (word_of l.initial.left)) l.to l.p l.initial.left l.left
+    × Filling (due_with (word_of l.periods) (word_of l.initial.due) l.at.0) l.to l.p l.initial.due l.due
