@@ -1,0 +1,16 @@
+use Prim.Native.Nat.{◌-◌}
+use native.Mathlib.Omega.{arith}
+use mathlib.Core.Path.{◌≡◌, refl}
+use Rattle.model.specs.Lists.{filled, word_of}
+use Rattle.machine.specs.Slices.{kept}
+use Rattle.ticking.proofs.ReportLaws.{reported}
+use Rattle.ticking.proofs.PlayLaws.{Playing, playing_none, left_long_law, due_long_law, ready_long, nexts_long_law, state_held, state_known, has_next, playing_more, stops_quiet, stops_late, told_none, told_more, told_all, told_late, told_over, told_long}
+use Rattle.ticking.proofs.play_all.Given as goal
+
+abbrev pub invariant-loop-at : goal.invariant-loop-at
+invariant-loop-at l =
+    Playing l.periods l.costs l.n l.limit.0 (kept l.initial.left l.initial.due l.initial.ready l.initial.nexts) l.at (kept l.left l.due l.ready l.nexts) l.place l.next
+    × (l.answers ≡ filled (reported (word_of l.periods) (word_of l.costs) l.n (word_of l.deadlines) l.at) l.n l.initial.answers)
+
+abbrev pub decreases-loop-at : goal.decreases-loop-at
+decreases-loop-at l = l.limit.0 - l.at
