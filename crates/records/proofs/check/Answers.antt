@@ -14,32 +14,32 @@ use Rattle.records.proofs.check.Goals as goal
 
 pub returns-then-not-within : goal.returns-then-not-within
 unfolding record_test
-returns-then-not-within c = sym (tests_fail _ _ [] _ period_field tt (sym c.within.ensures ∙ c.if-not-within.true))
+returns-then-not-within c = sym (tests_fail _ _ [] _ period_field tt ((sym c.within.ensures ∙ c.if-not-within.true)))
 
 pub returns-then-not-within-2 : goal.returns-then-not-within-2
 unfolding record_test
-returns-then-not-within-2 c = sym (tests_fail _ _ (period_field ∷ []) _ cost_field (confirmed c.within.ensures c.if-not-within.false, tt) (sym c.within-2.ensures ∙ c.if-not-within-2.true))
+returns-then-not-within-2 c = sym (tests_fail _ _ (period_field ∷ []) _ cost_field ((sym c.within.ensures ∙ c.if-not-within.false), tt) ((sym c.within-2.ensures ∙ c.if-not-within-2.true)))
 
 pub returns-then-not-within-3 : goal.returns-then-not-within-3
 unfolding record_test
 returns-then-not-within-3 c =    sym
-    (tests_fail _ _ (period_field ∷ cost_field ∷ []) _ deadline_field (confirmed c.within.ensures c.if1.false, (confirmed c.within2.ensures c.if2.false, tt))
-    (ap (λ (k : ℕ). between 1 k c.args.task.deadline.0) (sym c.longest_deadline.ensures) ∙ refuted c.within-3.ensures c.if-not-within-3.true))
+    (tests_fail _ _ (period_field ∷ cost_field ∷ []) _ deadline_field ((sym c.within.ensures ∙ c.if-not-within.false), ((sym c.within-2.ensures ∙ c.if-not-within-2.false), tt))
+    (ap (λ (k : ℕ). between 1 k c.args.task.deadline.0) (sym c.longest_deadline.ensures) ∙ (sym c.within-3.ensures ∙ c.if-not-within-3.true)))
 
 pub returns-then-not-within-4 : goal.returns-then-not-within-4
-returns-then-not-within-4 c =    delay_refused _ _ _ _ _ (sym c.within.ensures ∙ c.if1.false) (sym c.within2.ensures ∙ c.if2.false)
-    (ap (λ (k : ℕ). between 1 k c.args.task.deadline.0) (sym c.longest-deadline.ensures) ∙ confirmed c.within3.ensures c.if3.false)
-    (sym c.within4.ensures ∙ c.if4.true) _ c.delay_at-delay.ensures.0
+returns-then-not-within-4 c =    delay_refused _ _ c.args.layout _ _ ((sym c.within.ensures ∙ c.if-not-within.false)) ((sym c.within-2.ensures ∙ c.if-not-within-2.false))
+    (ap (λ (k : ℕ). between 1 k c.args.task.deadline.0) (sym c.longest_deadline.ensures) ∙ (sym c.within-3.ensures ∙ c.if-not-within-3.false))
+    ((sym c.within-4.ensures ∙ c.if-not-within-4.true)) _ c.delay_at-delay.ensures.0
 
 pub returns-then-not-within-5 : goal.returns-then-not-within-5
 unfolding record_test
 returns-then-not-within-5 c =    sym
     (tests_fail _ _ (period_field ∷ cost_field ∷ deadline_field ∷ earliest_field ∷ latest_field ∷ []) _ priority_field
-    (confirmed c.within.ensures c.if1.false, (confirmed c.within2.ensures c.if2.false, (ap (λ (k : ℕ). between 1 k c.args.task.deadline.0) (sym c.longest_deadline.ensures) ∙ confirmed c.within-3.ensures c.if-not-within-3.false, (earliest_right c.args.task.earliest.0 c.args.task.latest.0 (sym c.within-4.ensures ∙ c.if-not-within-4.false), (confirmed c.within-4.ensures c.if-not-within-4.false, tt)))))
-    (between_same (sym c.wide.ensures.0) (sym c.wide-2.ensures.0) ∙ refuted c.within-5.ensures c.if-not-within-5.true))
+    ((sym c.within.ensures ∙ c.if-not-within.false), ((sym c.within-2.ensures ∙ c.if-not-within-2.false), (ap (λ (k : ℕ). between 1 k c.args.task.deadline.0) (sym c.longest_deadline.ensures) ∙ (sym c.within-3.ensures ∙ c.if-not-within-3.false), (earliest_right c.args.task.earliest.0 c.args.task.latest.0 ((sym c.within-4.ensures ∙ c.if-not-within-4.false)), ((sym c.within-4.ensures ∙ c.if-not-within-4.false), tt)))))
+    (between_same (sym c.wide.ensures.0) (sym c.wide-2.ensures.0) ∙ (sym c.within-5.ensures ∙ c.if-not-within-5.true)))
 
 pub returns : goal.returns
 unfolding record_test
 returns c =    sym
     (tests_pass _ _ record_order
-    (confirmed c.within.ensures c.if1.false, (confirmed c.within2.ensures c.if2.false, (ap (λ (k : ℕ). between 1 k c.args.task.deadline.0) (sym c.longest_deadline.ensures) ∙ confirmed c.within-3.ensures c.if-not-within-3.false, (earliest_right c.args.task.earliest.0 c.args.task.latest.0 (sym c.within-4.ensures ∙ c.if-not-within-4.false), (confirmed c.within-4.ensures c.if-not-within-4.false, (between_same (sym c.wide.ensures.0) (sym c.wide-2.ensures.0) ∙ confirmed c.within-5.ensures c.if-not-within-5.false, tt)))))))
+    ((sym c.within.ensures ∙ c.if-not-within.false), ((sym c.within-2.ensures ∙ c.if-not-within-2.false), (ap (λ (k : ℕ). between 1 k c.args.task.deadline.0) (sym c.longest_deadline.ensures) ∙ (sym c.within-3.ensures ∙ c.if-not-within-3.false), (earliest_right c.args.task.earliest.0 c.args.task.latest.0 ((sym c.within-4.ensures ∙ c.if-not-within-4.false)), ((sym c.within-4.ensures ∙ c.if-not-within-4.false), (between_same (sym c.wide.ensures.0) (sym c.wide-2.ensures.0) ∙ (sym c.within-5.ensures ∙ c.if-not-within-5.false), tt)))))))

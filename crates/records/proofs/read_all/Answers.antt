@@ -19,11 +19,10 @@ pub check-found-requires : goal.check-found-requires
 check-found-requires c = (c.requires.head_read.1, start_near _ _ _ _ _ _ _ c.loop-i.invariant.0 c.loop-i-test.true)
 
 pub returns-then-not-is_clean : goal.returns-then-not-is_clean
-returns-then-not-is_clean c =    let w = record_wrong _ _ _ _ _ _ _ c.loop-i.invariant.0 c.loop-i-test.true _ c.read-task.ensures.result_value c.read-task.ensures.priority_bound _ c.check-found.ensures (sym c.is_clean.ensures ∙ c.if-not-is_clean.true) in
-    (w.0, taking_at c.loop-i.invariant.1 _ _ w.1 refl)
+returns-then-not-is_clean c =    let w = record_wrong _ _ _ _ _ _ _ c.loop-i.invariant.0 c.loop-i-test.true _ c.read-task.ensures.result_value c.read-task.ensures.priority_bound _ c.check-found.ensures (sym c.is_clean.ensures ∙ c.if-not-is_clean.true) in record { value = w.0; filled = (taking_at c.loop-i.invariant.1 _ _ w.1 refl).0; filled_2 = (taking_at c.loop-i.invariant.1 _ _ w.1 refl).1 }
 
 pub overflow_sub-words : goal.overflow_sub-words
-overflow_sub-words c = omega (arith, clean_delays _ _ _ _ _ _ c.check-found.ensures (sym c.is_clean.ensures ∙ c.if-not-is_clean.false))
+overflow_sub-words c = omega (arith, clean_delays _ _ c.args.layout _ _ _ c.check-found.ensures (sym c.is_clean.ensures ∙ c.if-not-is_clean.false))
 
 pub loop-i-preserved : goal.loop-i-preserved
 loop-i-preserved c = (
@@ -32,5 +31,7 @@ loop-i-preserved c = (
 )
 
 pub returns : goal.returns
-returns c =    let w = reading_all _ _ _ _ c.loop-i.invariant.0 c.loop-i-test.false in
-    (w.0, taking_at c.loop-i.invariant.1 _ _ w.1 refl)
+returns c =    let w = reading_all _ _ _ _ c.loop-i.invariant.0 c.loop-i-test.false in record { value = w.0; filled = (taking_at c.loop-i.invariant.1 _ _ w.1 refl).0; filled_2 = (taking_at c.loop-i.invariant.1 _ _ w.1 refl).1 }
+
+pub overflow_add-at : goal.overflow_add-at
+overflow_add-at c = omega (arith, record_there _ _ _ _ _ _ _ c.loop-i.invariant.0 c.loop-i-test.true, c.well_formed)
