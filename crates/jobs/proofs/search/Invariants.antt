@@ -1,0 +1,12 @@
+use Prim.Native.Nat.{◌-◌}
+use native.Mathlib.Omega.{arith}
+use mathlib.Core.Path.{◌≡◌, refl}
+use lib.ListN.{length}
+use borrow.Author.Rules.{rules}
+use Rattle.jobs.proofs.TryingLaws.{Trying, trying_first, turn_past, may_try, turn_late, window_low, window_fits, turn_stops, turn_on, turn_open}
+use Rattle.jobs.proofs.search.Given as goal
+
+abbrev pub invariant-loop-q : goal.invariant-loop-q
+invariant-loop-q l =
+    Trying l.periods l.costs l.spreads l.own l.count l.blocked l.each l.between l.due l.ahead.0 l.q l.base l.x l.passed l.limit l.largest.0 l.marks l.least.0
+    × (length l.marks ≡ length l.initial.marks)
