@@ -5,7 +5,8 @@ use borrow.Author.Rules.{rules}
 use Rattle.claims.specs.Numbers.{packed_claimed}
 use Rattle.claims.proofs.Claims.{claimed_place_law}
 use mathlib.Core.Path.{sym}
-use Rattle.claims.proofs.ulmerascio_check_claims.Goals as goal
+use mathlib.Core.Bool.{not}
+use Rattle.claims.proofs.packed_claims.Goals as goal
 
 pub pack-requires : goal.pack-requires
 pack-requires c = claimed_place_law _ _ _ c.check_claims.ensures
