@@ -1,15 +1,9 @@
 -- `answering::answer_all` meets its contract: each turn answers one task, by the laws of `AnsweringLaws`.
 -- Assumes nothing.
-use Prim.Native.Nat.{◌-◌}
 use native.Mathlib.Omega.{arith}
-use mathlib.Core.Path.{◌≡◌, refl, ◌∙◌}
-use lib.ListN.{length}
-use Rattle.model.proofs.Filling.{Filling, filling_none, filling_more, filling_at}
-use Rattle.solver.proofs.RoundLaws.{markable}
-use Rattle.answering.specs.Results.{result_of}
-use Rattle.answering.specs.Slices.{decoded, answer_in, rounds_in}
-use Rattle.answering.proofs.AnsweringLaws.{Walking, walking_none, walking_more, walked_all, result_none, result_more, result_all, reached_more, reached_fits, own_cost, base_fits, loads_fit_law, count_high, first_fits, solvable, begun, response_is, rounds_are_law}
-use mathlib.Core.Path.{sym}
+use mathlib.Core.Path.{refl, ◌∙◌}
+use Rattle.model.proofs.Filling.{filling_none, filling_more}
+use Rattle.answering.proofs.AnsweringLaws.{walking_none, walking_more, result_none, result_more, reached_more, reached_fits, own_cost, loads_fit_law, count_high, first_fits, solvable, begun, response_is, rounds_are_law}
 use Rattle.answering.proofs.answer_all.Goals as goal
 
 pub loop-i-init : goal.loop-i-init
@@ -31,7 +25,7 @@ pub solve-solved-requires : goal.solve-solved-requires
 solve-solved-requires c = record { loads_fit = (loads_fit_law _ _ _ c.loop-i.invariant.0.fits c.loop-i-test.true _ _ _ _ _ _ c.group_of-group.ensures, omega (arith, count_high _ _ _ c.loop-i.invariant.0.fits c.loop-i-test.true _ _ _ _ _ _ c.group_of-group.ensures, c.requires.periods_high.1, c.loop-i.invariant.4)); solvable = solvable _ _ _ c.loop-i.invariant.0.fits c.loop-i-test.true _ _ _ _ _ _ c.group_of-group.ensures c.args.start _ c.first_term.ensures; begun = begun _ _ _ c.loop-i.invariant.0.fits c.loop-i-test.true _ _ _ _ _ _ c.group_of-group.ensures c.args.start _ c.first_term.ensures c.requires.periods_high.0 _ c.least_first-least.ensures }
 
 pub loop-i-preserved : goal.loop-i-preserved
-loop-i-preserved c =    let answer = response_is _ _ _ c.loop-i.invariant.0.fits c.loop-i-test.true _ _ _ _ _ _ c.group_of-group.ensures c.args.start _ c.first_term.ensures _ _ _ c.solve-solved.ensures in
+loop-i-preserved c = let answer = response_is _ _ _ c.loop-i.invariant.0.fits c.loop-i-test.true _ _ _ _ _ _ c.group_of-group.ensures c.args.start _ c.first_term.ensures _ _ _ c.solve-solved.ensures in
     let spent = rounds_are_law _ _ _ c.loop-i.invariant.0.fits c.loop-i-test.true _ _ _ _ _ _ c.group_of-group.ensures c.args.start _ c.first_term.ensures _ _ _ c.solve-solved.ensures in (
       walking_more _ _ _ c.loop-i.invariant.0.fits c.loop-i-test.true _ _ _ _ _ _ c.group_of-group.ensures _ c.loop-i.invariant.0,
       result_more _ _ _ _ _ _ _ c.loop-i.invariant.1 answer c.solve-solved.ensures.late_is c.with_answer-verdict.ensures,

@@ -1,12 +1,9 @@
-use Prim.Native.Nat.{◌-◌}
-use native.Mathlib.Omega.{arith}
-use mathlib.Core.Path.{◌≡◌, refl, ◌∙◌}
+use mathlib.Core.Path.{◌≡◌}
 use lib.ListN.{length}
-use Rattle.model.proofs.Filling.{Filling, filling_none, filling_more, filling_at}
-use Rattle.solver.proofs.RoundLaws.{markable}
+use Rattle.model.proofs.Filling.{Filling}
 use Rattle.answering.specs.Results.{result_of}
 use Rattle.answering.specs.Slices.{decoded, answer_in, rounds_in}
-use Rattle.answering.proofs.AnsweringLaws.{Walking, walking_none, walking_more, walked_all, result_none, result_more, result_all, reached_more, reached_fits, own_cost, base_fits, loads_fit_law, count_high, first_fits, solvable, begun, response_is, rounds_are_law}
+use Rattle.answering.proofs.AnsweringLaws.{Walking}
 use Rattle.answering.proofs.answer_all.Given as goal
 
 abbrev pub invariant-loop-i : goal.invariant-loop-i

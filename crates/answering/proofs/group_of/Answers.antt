@@ -1,8 +1,7 @@
 -- `answering::group_of` meets its contract: each turn looks at one place more, by the laws of `GroupLaws`.
 -- Assumes nothing.
-use Prim.Native.Nat.{◌-◌}
 use native.Mathlib.Omega.{arith}
-use Rattle.answering.proofs.GroupLaws.{Scanning, scan_first, scan_high, scan_more, scan_stop, scan_end, found_alone, found_end}
+use Rattle.answering.proofs.GroupLaws.{scan_first, scan_high, scan_more, scan_stop, scan_end, found_alone, found_end}
 use Rattle.answering.proofs.group_of.Goals as goal
 
 pub returns-then-priorities-i : goal.returns-then-priorities-i

@@ -1,8 +1,5 @@
 -- `jobs::longest` meets its contract: the first term is late, or the answer, or q is tried from the first marks on.
 -- Assumes nothing.
-use borrow.Author.Rules.{rules}
-use native.Mathlib.Omega.{arith}
-use Rattle.solver.proofs.RoundLaws.{markable}
 use Rattle.jobs.proofs.TryingLaws.{begin_late, begin_found, begin_search}
 use Rattle.jobs.proofs.longest.Goals as goal
 

@@ -1,11 +1,9 @@
 -- `jobs::search` meets its contract: each turn tries one q, by the laws of `TryingLaws`.
 -- Assumes nothing.
-use Prim.Native.Nat.{◌-◌}
 use native.Mathlib.Omega.{arith}
-use mathlib.Core.Path.{◌≡◌, refl}
-use lib.ListN.{length}
+use mathlib.Core.Path.{refl}
 use borrow.Author.Rules.{rules}
-use Rattle.jobs.proofs.TryingLaws.{Trying, trying_first, turn_past, may_try, turn_late, window_low, window_fits, turn_stops, turn_on, turn_open}
+use Rattle.jobs.proofs.TryingLaws.{trying_first, turn_past, turn_late, window_low, turn_stops, turn_on, turn_open}
 use Rattle.jobs.proofs.search.Goals as goal
 
 pub loop-q-init : goal.loop-q-init

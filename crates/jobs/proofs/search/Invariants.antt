@@ -1,9 +1,6 @@
-use Prim.Native.Nat.{◌-◌}
-use native.Mathlib.Omega.{arith}
-use mathlib.Core.Path.{◌≡◌, refl}
+use mathlib.Core.Path.{◌≡◌}
 use lib.ListN.{length}
-use borrow.Author.Rules.{rules}
-use Rattle.jobs.proofs.TryingLaws.{Trying, trying_first, turn_past, may_try, turn_late, window_low, window_fits, turn_stops, turn_on, turn_open}
+use Rattle.jobs.proofs.TryingLaws.{Trying}
 use Rattle.jobs.proofs.search.Given as goal
 
 abbrev pub invariant-loop-q : goal.invariant-loop-q

@@ -1,9 +1,9 @@
 -- `machine::release::release` meets its contract: each turn looks at one word, by the laws of `ReleaseLaws`.
 -- Assumes nothing.
-use Prim.Native.Nat.{◌-◌, ◌<◌}
+use Prim.Native.Nat.{◌<◌}
 use native.Mathlib.Omega.{arith}
 use Rattle.machine.specs.Slices.{kept, words_for}
-use Rattle.machine.proofs.ReleaseLaws.{Looking, looking_none, looking_more, looking_left, looking_due, none_due, work_held, ready_room, nexts_room, next_there, not_past_law, all_released}
+use Rattle.machine.proofs.ReleaseLaws.{looking_none, looking_more, none_due, work_held, ready_room, nexts_room, next_there, not_past_law, all_released}
 use Rattle.machine.proofs.release.release.Goals as goal
 
 pub loop-w-init : goal.loop-w-init

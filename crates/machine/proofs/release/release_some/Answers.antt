@@ -1,11 +1,8 @@
 -- `machine::release::release_some` meets its contract: each turn looks at one task, by the laws of `ReleaseLaws`.
 -- Assumes nothing.
-use Prim.Native.Nat.{◌-◌}
 use native.Mathlib.Omega.{arith}
-use Rattle.model.specs.Lists.{word_of}
-use Rattle.model.proofs.Filling.{Filling, filling_old}
-use Rattle.machine.specs.Machine.{left_with, due_with}
-use Rattle.machine.proofs.ReleaseLaws.{Releasing, releasing_none, releasing_more, left_none, due_none, left_more, due_more, some_released}
+use Rattle.model.proofs.Filling.{filling_old}
+use Rattle.machine.proofs.ReleaseLaws.{releasing_none, releasing_more, left_none, due_none, left_more, due_more}
 use Rattle.machine.proofs.release.release_some.Goals as goal
 
 pub loop-p-init : goal.loop-p-init

@@ -4,7 +4,6 @@ use Rattle.model.proofs.Tests.{refuted, confirmed}
 use native.Mathlib.Omega.{arith}
 use mathlib.Core.Path.{refl, sym, ◌∙◌}
 use Rattle.tables.proofs.HeadLaws.{head_short, head_version, head_tasks, head_rows, head_stated, head_summed, head_clean, summed_small}
-use borrow.Author.Rules.{rules}
 use Rattle.tables.proofs.head.check.Goals as goal
 
 pub returns-then-table-lt-HEAD_SIZE : goal.returns-then-table-lt-HEAD_SIZE
