@@ -1,4 +1,6 @@
 // Reads a table from standard input as it arrives, through the intake (SPECIFICATION 13.13; document 02, L11), and prints its answers.
+#![tactic(auto)]
+
 ghost use Rattle.std.specs.Prelude.{◌≤◌, ◌≡◌, length};
 ghost use Rattle.tables.specs.FirstBytes.{most_kept};
 ghost use Rattle.printing.specs.Longest.{longest};
@@ -7,7 +9,7 @@ ghost use Rattle.intake.specs.Intake.{held, condition_of};
 ghost use Rattle.answers.specs.Input.{KeepsRead, PrintsAll};
 
 use intake::{Ended, MOST_KEPT};
-use libc::{STDIN_FILENO, STDOUT_FILENO};
+use std::io::{Read as Source, Result};
 
 // How many bytes were read in all, and by the last read: none at the end of the input.
 #[derive(Clone, Copy)]
@@ -16,27 +18,27 @@ struct Read {
     last: usize,
 }
 
-fn main() {
+fn main(rt: HostRuntime) -> Result<()> {
     let mut store = [0u8; MOST_KEPT];
     let mut fill: usize = 0;
-    take_all(&mut store, &mut fill);
+    take_all(&mut rt.stdin(), &mut store, &mut fill);
     let mut out = [0u8; printing::LONGEST];
     let end = answer(&store, &mut fill, &mut out);
-    io::write_all(STDOUT_FILENO, &out[..end]);
+    rt.write_all(&out[..end])
 }
 
-// Takes standard input piece by piece, to its end, or until what is still to come would be dropped.
-fn take_all(store: &mut [u8], fill: &mut usize) -> Read
+// Takes the source piece by piece, to its end, or until what is still to come would be dropped. A read that fails gives none, and is the
+// end.
+fn take_all<S: Source>(source: &mut S, store: &mut [u8], fill: &mut usize) -> Read
     requires { most_kept ≤ length store.old }
     ensures { KeepsRead result (held store.new fill.new) }
 {
-    let mut piece = io::buffer();
+    let mut piece = [0u8; 4096];
     let mut total: usize = 0;
     let mut last: usize = 0;
     intake::begin(fill);
     while total < MOST_KEPT {
-        let got = libc::read(STDIN_FILENO, &mut piece);
-        let count = io::count(got, &piece);
+        let count = source.read(&mut piece).unwrap_or(0);
         if count == 0 {
             return Read {
                 total: total,

@@ -22,7 +22,7 @@ pub record Behind (scan : Scan) (words : List ℕ) : Type 0 where
 
 -- what is known of a list: nothing where it was not read to its end
 abbrev pub list_read : declared.List → List ℕ → Type 0
-list_read Failed words = Unit
+list_read (Failed error) words = Unit
 list_read TooLong words = Unit
 list_read (Gone scan) words = Behind scan words
 

@@ -1,4 +1,6 @@
 // Checks a list of claims against a table. The first argument names the file with the list's text; the table comes from standard input.
+#![tactic(auto)]
+
 ghost use Rattle.std.specs.Prelude.{◌≤◌, ◌≡◌, length};
 ghost use Rattle.printing.specs.Longest.{Whole};
 ghost use Rattle.scanning.specs.Pieces.{Within, words_at, gone};
@@ -6,8 +8,11 @@ ghost use Rattle.checking.specs.Pieces.{words_kept, line_after};
 ghost use Rattle.checking.specs.Longest.{longest};
 ghost use Rattle.checker.specs.Lists.{Behind, list_read, Taken};
 
-use libc::{STDERR_FILENO, STDIN_FILENO, STDOUT_FILENO};
 use scanning::Scan;
+use std::env::{Env, FillError};
+use std::fs::File;
+use std::io::{Error, Read, Result};
+use streams::{fail, read_full};
 
 // 2^63: a proved loop has to end, and the system counts the bytes of a file in 63 bits.
 const MOST_TEXT: usize = 9223372036854775808;
@@ -16,7 +21,7 @@ const MOST_TEXT: usize = 9223372036854775808;
 #[derive(Clone, Copy)]
 enum List {
     // a read failed
-    Failed,
+    Failed(Error),
     TooLong,
     Gone(Scan),
 }
@@ -28,46 +33,52 @@ enum Step {
     More(Scan),
 }
 
-fn main() {
-    let mut name = io::buffer();
-    let length = os::arg(1, &mut name);
-    if os::errno() != 0 {
-        os::fail(b"the file with the claims");
-        return;
+fn main(rt: HostRuntime) -> Result<()> {
+    let mut name = [0u8; 4096];
+    match rt.arg(1, &mut name) {
+        Ok(length) => check_named(rt, &name[..length]),
+        Err(FillError::NotPresent) => say(rt, b"the file with the claims: Invalid argument\n"),
+        Err(FillError::TooLong) => say(rt, b"the file with the claims: File name too long\n"),
     }
-    check_file(&name[..length]);
 }
 
-// Reads the list from the file of that name.
-fn check_file(name: &[u8]) {
-    let file = os::open_read(name);
-    if file < 0 {
-        os::fail(name);
-        return;
+// Opens the file of that name, which the library takes as text alone.
+fn check_named(rt: HostRuntime, name: &[u8]) -> Result<()> {
+    let Ok(path) = str::from_utf8(name) else {
+        return say(
+            rt,
+            b"the name of the file with the claims is not UTF-8 text\n",
+        );
+    };
+    match File::open(&rt, path) {
+        Ok(file) => check_file(rt, name, file),
+        Err(error) => fail(rt, name, error),
     }
+}
+
+// Reads the list from the file, which has that name.
+fn check_file(rt: HostRuntime, name: &[u8], mut file: File) -> Result<()> {
     let mut words = [0u32; checking::WORDS];
-    let list = read_list(file, &mut words);
+    let list = read_list(&mut file, &mut words);
     match list {
-        List::Failed => os::fail(name),
-        List::TooLong => say_too_long(),
-        List::Gone(scan) => check_input(scan, &mut words),
+        List::Failed(error) => fail(rt, name, error),
+        List::TooLong => say_too_long(rt),
+        List::Gone(scan) => check_input(rt, scan, &mut words),
     }
-    libc::close(file);
 }
 
 // Goes through the file to its end, piece by piece as it is read, or to something that can't be read.
-fn read_list(file: i32, words: &mut [u32]) -> List
+fn read_list<F: Read>(file: &mut F, words: &mut [u32]) -> List
     requires { length words.old ≡ words_kept }
     ensures { list_read result words.new }
 {
-    let mut piece = io::large_buffer();
+    let mut piece = [0u8; 65536];
     let mut scan = scanning::begin();
     while scan.at.0 < MOST_TEXT {
-        let got = libc::read(file, &mut piece);
-        if got < 0 {
-            return List::Failed;
-        }
-        let taken = io::count(got, &piece);
+        let taken = match file.read(&mut piece) {
+            Ok(count) => count,
+            Err(error) => return List::Failed(error),
+        };
         match take_in(scan, &piece[..taken], words) {
             Step::Ended(last) => return List::Gone(last),
             Step::More(reached) => scan = reached,
@@ -92,20 +103,24 @@ fn take_in(scan: Scan, piece: &[u8], words: &mut [u32]) -> Step
 }
 
 // Nothing is said of a list that was not read whole.
-fn say_too_long() {
-    io::write_all(STDERR_FILENO, b"the list has 2^63 bytes or more\n");
+fn say_too_long(rt: HostRuntime) -> Result<()> {
+    say(rt, b"the list has 2^63 bytes or more\n")
+}
+
+fn say(rt: HostRuntime, line: &[u8]) -> Result<()> {
+    rt.stderr().write_all(line)
 }
 
 // Reads the table, and writes what is said of the claims in one call.
-fn check_input(scan: Scan, words: &mut [u32])
+fn check_input(rt: HostRuntime, scan: Scan, words: &mut [u32]) -> Result<()>
     requires { Behind scan words.old }
 {
     // one byte more than the longest table
     let mut input = [0u8; 4590];
-    let length = io::read_full(STDIN_FILENO, &mut input);
+    let length = read_full(&mut rt.stdin(), &mut input);
     let mut out = [0u8; checking::LONGEST];
     let end = check(scan, words, &input[..length], &mut out);
-    io::write_all(STDOUT_FILENO, &out[..end]);
+    rt.write_all(&out[..end])
 }
 
 // Puts the whole line for the list and the table into a buffer that holds any, and answers where it ends.

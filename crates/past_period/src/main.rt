@@ -1,18 +1,21 @@
 // Reads a table from standard input and prints what the second analysis says of it (SPECIFICATION 10 and 13.8; document 02, L8).
+#![tactic(auto)]
+
 ghost use Rattle.std.specs.Prelude.{◌≤◌, length};
 ghost use Rattle.printing.specs.Longest.{Whole};
 ghost use Rattle.past_text.specs.Answered.{past_text};
 ghost use Rattle.past_text.specs.Longest.{longest_past};
 
-use libc::{STDIN_FILENO, STDOUT_FILENO};
+use std::io::Result;
+use streams::read_full;
 
-fn main() {
+fn main(rt: HostRuntime) -> Result<()> {
     // one byte more than the longest table, so that a longer input is seen to be too long
     let mut input = [0u8; 4590];
-    let length = io::read_full(STDIN_FILENO, &mut input);
+    let length = read_full(&mut rt.stdin(), &mut input);
     let mut out = [0u8; past_text::LONGEST];
     let end = answer(&input[..length], &mut out);
-    io::write_all(STDOUT_FILENO, &out[..end]);
+    rt.write_all(&out[..end])
 }
 
 // Puts the whole text of what the second analysis says of the table into a buffer that holds any, and answers where it ends.

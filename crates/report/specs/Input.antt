@@ -16,8 +16,8 @@ pub record BehindRead (report : Report) (total : ℕ) (store : List ℕ) : Type 
 
 -- nothing is known where it was not read
 abbrev pub input_read : Input → List ℕ → Type 0
-input_read Failed store = Unit
-input_read Unwritten store = Unit
+input_read (Failed error) store = Unit
+input_read (Unwritten error) store = Unit
 input_read TooLong store = Unit
 input_read (Read report total) store = BehindRead report total store
 -- and here the report is closed: what is still to come changes nothing (`ClosedEarly`, in crates/reporting/specs/Streaming.antt)

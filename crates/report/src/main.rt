@@ -1,13 +1,16 @@
 // Reads many tables that stand end to end from standard input and prints a report of them, each table's line as soon as the table has come
 // whole (SPECIFICATION 13.12; document 02, L10). It keeps the table at hand and three counts, however long the input is.
+#![tactic(auto)]
+
 ghost use Rattle.std.specs.Prelude.{◌≡◌, ◌≤◌, length};
 ghost use Rattle.printing.specs.Longest.{Whole};
 ghost use Rattle.reporting.specs.Streaming.{store_size, GoesOn, Countable, closing_by, lines_room};
 ghost use Rattle.reporting.specs.Longest.{closing_room};
 ghost use Rattle.report.specs.Input.{input_read};
 
-use libc::{STDERR_FILENO, STDIN_FILENO, STDOUT_FILENO};
 use reporting::{Report, Told};
+use std::io::{Error, Read, Result};
+use streams::fail;
 
 // A proved count of bytes has to end somewhere, and no input is that long: 2^63 bytes.
 const MOST_BYTES: usize = 9223372036854775808;
@@ -15,46 +18,46 @@ const MOST_BYTES: usize = 9223372036854775808;
 // What became of the input: so many bytes of it were read, to its end, or to where they close the report; or why they were not.
 #[derive(Clone, Copy)]
 enum Input {
-    Failed,
-    Unwritten,
+    Failed(Error),
+    Unwritten(Error),
     TooLong,
     Read(Report, usize),
     Closed(Report, usize),
 }
 
-fn main() {
+fn main(rt: HostRuntime) -> Result<()> {
     let mut store = [0u8; reporting::STORE];
-    let input = report_all(&mut store);
+    let input = report_all(rt, &mut store);
     match input {
-        Input::Failed => os::fail(b"the tables"),
-        Input::Unwritten => os::fail(b"the report"),
-        Input::TooLong => say_too_long(),
-        Input::Read(report, _) => close(report),
-        Input::Closed(report, _) => close(report),
+        Input::Failed(error) => fail(rt, b"the tables", error),
+        Input::Unwritten(error) => fail(rt, b"the report", error),
+        Input::TooLong => say_too_long(rt),
+        Input::Read(report, _) => close(rt, report),
+        Input::Closed(report, _) => close(rt, report),
     }
 }
 
 // Reads standard input piece by piece, and writes the lines of the tables that end in each piece before it reads the next.
-fn report_all(store: &mut [u8]) -> Input
+fn report_all(rt: HostRuntime, store: &mut [u8]) -> Input
     requires { length store.old ≡ store_size }
     ensures { input_read result store.new }
 {
-    let mut piece = io::buffer();
-    let mut out = io::large_buffer();
+    let mut input = rt.stdin();
+    let mut piece = [0u8; 4096];
+    let mut out = [0u8; 65536];
     let mut report = reporting::begin();
     let mut total: usize = 0;
     while total < MOST_BYTES {
-        let got = libc::read(STDIN_FILENO, &mut piece);
-        if got < 0 {
-            return Input::Failed;
-        }
-        let taken = io::count(got, &piece);
+        let taken = match input.read(&mut piece) {
+            Ok(count) => count,
+            Err(error) => return Input::Failed(error),
+        };
         if taken == 0 {
             return Input::Read(report, total);
         }
         let told = lines(report, &piece[..taken], store, &mut out);
-        if !io::write_all(STDOUT_FILENO, &out[..told.end]) {
-            return Input::Unwritten;
+        if let Err(error) = rt.write_all(&out[..told.end]) {
+            return Input::Unwritten(error);
         }
         report = told.report;
         total = total + taken;
@@ -75,15 +78,16 @@ fn lines(report: Report, more: &[u8], store: &mut [u8], out: &mut [u8]) -> Told
     reporting::go_on(report, more, store, out, 0)
 }
 
-fn say_too_long() {
-    io::write_all(STDERR_FILENO, b"the tables have 2^63 bytes or more\n");
+fn say_too_long(rt: HostRuntime) -> Result<()> {
+    rt.stderr()
+        .write_all(b"the tables have 2^63 bytes or more\n")
 }
 
 // Writes the totals, and that the input is broken where it is.
-fn close(report: Report) {
-    let mut out = io::buffer();
+fn close(rt: HostRuntime, report: Report) -> Result<()> {
+    let mut out = [0u8; 4096];
     let end = closing(report, &mut out);
-    io::write_all(STDOUT_FILENO, &out[..end]);
+    rt.write_all(&out[..end])
 }
 
 // Puts them into a buffer that has room.

@@ -21,7 +21,7 @@ pub record Behind (reader : Reader) (fields numbers places : List ℕ) : Type 0 
 
 -- what is known of a text: nothing where it was not read to its end
 abbrev pub text_read : Text → List ℕ → List ℕ → List ℕ → Type 0
-text_read Failed fields numbers places = Unit
+text_read (Failed error) fields numbers places = Unit
 text_read TooLong fields numbers places = Unit
 text_read (Gone reader) fields numbers places = Behind reader fields numbers places
 

@@ -1,12 +1,16 @@
 // Reads the text of a table from standard input and writes the table's bytes. With one argument, a byte of the table, it writes the line of
 // the text in which that field stands instead. A text that can't be read gets one line on standard error (SPECIFICATION 14).
+#![tactic(auto)]
+
 ghost use Rattle.std.specs.Prelude.{◌≤◌, length};
 ghost use Rattle.typed.specs.Answered.{end_in};
 ghost use Rattle.texts.specs.Behind.{Empty};
 ghost use Rattle.to_bytes.specs.Texts.{Behind, After, Ended, text_read, AnswersText, AnswersPlace};
 
-use libc::{STDERR_FILENO, STDIN_FILENO, STDOUT_FILENO};
 use scanning::Scanned;
+use std::env::{Env, FillError};
+use std::io::{Error, Read, Result};
+use streams::fail;
 use texts::MOST_TEXT;
 use typed::Answer;
 use typing::{Reader, State};
@@ -14,37 +18,41 @@ use typing::{Reader, State};
 // The text, gone through, or why it was not.
 #[derive(Clone, Copy)]
 enum Text {
-    Failed,
+    Failed(Error),
     TooLong,
     Gone(Reader),
 }
 
-fn main() {
+fn main(rt: HostRuntime) -> Result<()> {
     let mut fields = [0u32; typing::FIELDS];
     let mut numbers = [0u32; typing::NUMBERS];
     let mut places = [0u64; typing::PLACES];
-    let text = read_text(&mut fields, &mut numbers, &mut places);
+    let text = read_text(&mut rt.stdin(), &mut fields, &mut numbers, &mut places);
     match text {
-        Text::Failed => os::fail(b"the text"),
-        Text::TooLong => say_too_long(),
-        Text::Gone(reader) => finish(reader, &mut fields, &mut numbers, &mut places),
+        Text::Failed(error) => fail(rt, b"the text", error),
+        Text::TooLong => say_too_long(rt),
+        Text::Gone(reader) => finish(rt, reader, &mut fields, &mut numbers, &mut places),
     }
 }
 
-// Goes through standard input to its end, piece by piece as it is read.
-fn read_text(fields: &mut [u32], numbers: &mut [u32], places: &mut [u64]) -> Text
+// Goes through the input to its end, piece by piece as it is read.
+fn read_text<I: Read>(
+    input: &mut I,
+    fields: &mut [u32],
+    numbers: &mut [u32],
+    places: &mut [u64],
+) -> Text
     requires { Empty fields.old numbers.old places.old }
     ensures { text_read result fields.new numbers.new places.new }
 {
-    let mut piece = io::large_buffer();
+    let mut piece = [0u8; 65536];
     let mut reader = typing::begin();
     let mut total: usize = 0;
     while total < MOST_TEXT {
-        let got = libc::read(STDIN_FILENO, &mut piece);
-        if got < 0 {
-            return Text::Failed;
-        }
-        let taken = io::count(got, &piece);
+        let taken = match input.read(&mut piece) {
+            Ok(count) => count,
+            Err(error) => return Text::Failed(error),
+        };
         if taken == 0 {
             return Text::Gone(reader);
         }
@@ -54,30 +62,38 @@ fn read_text(fields: &mut [u32], numbers: &mut [u32], places: &mut [u64]) -> Tex
     Text::TooLong
 }
 
-fn say_too_long() {
-    io::write_all(STDERR_FILENO, b"the text has 2^59 bytes or more\n");
+fn say_too_long(rt: HostRuntime) -> Result<()> {
+    rt.stderr().write_all(b"the text has 2^59 bytes or more\n")
 }
 
-// Ends the last line, and answers.
-fn finish(reader: Reader, fields: &mut [u32], numbers: &mut [u32], places: &mut [u64])
+// Ends the last line, and answers what the first argument asks for.
+fn finish(
+    rt: HostRuntime,
+    reader: Reader,
+    fields: &mut [u32],
+    numbers: &mut [u32],
+    places: &mut [u64],
+) -> Result<()>
     requires { Behind reader fields.old numbers.old places.old }
 {
     let last = typing::take_byte(reader, b'\n', fields, numbers, places);
     let state = last.state;
-    if os::arg_count() < 2 {
-        write_answer(state, numbers);
-        return;
+    let mut text = [0u8; 4096];
+    match rt.arg(1, &mut text) {
+        Ok(length) => write_place(rt, &text[..length], state, numbers, places),
+        Err(FillError::NotPresent) => write_answer(rt, state, numbers),
+        // so many bytes are not one number
+        Err(FillError::TooLong) => say_no_place(rt),
     }
-    write_place(state, numbers, places);
 }
 
 // Writes the table's bytes, or on standard error the line for a text that can't be read.
-fn write_answer(state: State, numbers: &[u32])
+fn write_answer(rt: HostRuntime, state: State, numbers: &[u32]) -> Result<()>
     requires { Ended state numbers.now }
 {
     let mut out = [0u8; typed::LONGEST];
     let answer = respond(state, numbers, &mut out);
-    send(answer, &out);
+    send(rt, answer, &out)
 }
 
 // Puts the whole answer into a buffer that holds any.
@@ -91,53 +107,61 @@ fn respond(state: State, numbers: &[u32], out: &mut [u8]) -> Answer
 }
 
 // Writes what was asked for to standard output, and what is wrong to standard error.
-fn send(answer: Answer, out: &[u8])
+fn send(rt: HostRuntime, answer: Answer, out: &[u8]) -> Result<()>
     requires { end_in answer ≤ length out.now }
 {
     match answer {
-        Answer::Bytes(end) => write(STDOUT_FILENO, out, end),
-        Answer::Faulty(end) => write(STDERR_FILENO, out, end),
+        Answer::Bytes(end) => write(&rt.stdout(), out, end),
+        Answer::Faulty(end) => write(&rt.stderr(), out, end),
     }
 }
 
-fn write(file: i32, out: &[u8], end: usize)
+fn write<P: Print>(to: &P, out: &[u8], end: usize) -> Result<()>
     requires { end ≤ length out.now }
 {
-    io::write_all(file, &out[..end]);
+    to.write_all(&out[..end])
 }
 
-// Writes the line of the place that is asked for, which is the first argument.
-fn write_place(state: State, numbers: &[u32], places: &[u64])
+// Writes the line of the place that is asked for.
+fn write_place(
+    rt: HostRuntime,
+    text: &[u8],
+    state: State,
+    numbers: &[u32],
+    places: &[u64],
+) -> Result<()>
     requires { After state numbers.now places.now }
 {
-    let mut text = io::buffer();
-    let length = os::arg(1, &mut text);
     let mut words = [0u32; 1];
-    let scanned = scanning::numbers(&text[..length], &mut words);
+    let scanned = scanning::numbers(text, &mut words);
     match scanned {
-        Scanned::Numbers(count) => say_place(count, words[0], state, numbers, places),
-        Scanned::Unreadable(_) => say_no_place(),
+        Scanned::Numbers(count) => say_place(rt, count, words[0], state, numbers, places),
+        Scanned::Unreadable(_) => say_no_place(rt),
     }
 }
 
-fn say_no_place() {
-    io::write_all(
-        STDERR_FILENO,
-        b"the argument is not a place: one whole number\n",
-    );
+fn say_no_place(rt: HostRuntime) -> Result<()> {
+    rt.stderr()
+        .write_all(b"the argument is not a place: one whole number\n")
 }
 
 // Says in which line the field stands; a text that can't be read has none.
-fn say_place(count: usize, place: u32, state: State, numbers: &[u32], places: &[u64])
+fn say_place(
+    rt: HostRuntime,
+    count: usize,
+    place: u32,
+    state: State,
+    numbers: &[u32],
+    places: &[u64],
+) -> Result<()>
     requires { After state numbers.now places.now }
 {
     if count != 1 {
-        say_no_place();
-        return;
+        return say_no_place(rt);
     }
     let mut out = [0u8; typed::LONGEST];
     let answer = respond_place(state, numbers, places, place as usize, &mut out);
-    send(answer, &out);
+    send(rt, answer, &out)
 }
 
 // Puts the line of the place into a buffer.

@@ -1,18 +1,21 @@
 // Reads a table from standard input and prints its text form (SPECIFICATION 14).
+#![tactic(auto)]
+
 ghost use Rattle.std.specs.Prelude.{◌≤◌, length};
 ghost use Rattle.printing.specs.Longest.{Whole};
 ghost use Rattle.writing.specs.Text.{form_text};
 ghost use Rattle.writing.specs.Longest.{longest_form};
 
-use libc::{STDIN_FILENO, STDOUT_FILENO};
+use std::io::Result;
+use streams::read_full;
 
-fn main() {
+fn main(rt: HostRuntime) -> Result<()> {
     // one byte more than the longest table, so that a longer input is seen to be too long
     let mut input = [0u8; 4590];
-    let length = io::read_full(STDIN_FILENO, &mut input);
+    let length = read_full(&mut rt.stdin(), &mut input);
     let mut out = [0u8; writing::LONGEST];
     let end = answer(&input[..length], &mut out);
-    io::write_all(STDOUT_FILENO, &out[..end]);
+    rt.write_all(&out[..end])
 }
 
 // Puts the whole text for the table into a buffer that holds any, and answers where it ends.

@@ -5,6 +5,8 @@
 //
 // An entry of the file is two bytes with the table's length, one byte with the length of the slice to lend for answers, one byte
 // with that of the slice to lend for rounds, and the table's bytes.
+#![tactic(auto)]
+
 ghost use Rattle.std.specs.Prelude.{◌<◌, ◌≡◌, length};
 ghost use Rattle.printing.specs.Appended.{Appended};
 ghost use Rattle.worked.specs.Stay.{stays, stay_line};
@@ -16,10 +18,12 @@ mod playing;
 mod starts;
 
 use comparing::same_outcome;
-use libc::STDOUT_FILENO;
 use model::Place;
 use printing::append;
 use response::{Start, Verdict};
+use std::fs::File;
+use std::io::Result;
+use streams::{fail, read_full};
 use tables::fields::count;
 
 // What each lent word holds before a call, so that a word that stays can be seen to stay.
@@ -29,63 +33,82 @@ const FILLER: u32 = 2779096485;
 // and 1,617 with the rounds of 200 tasks from the old start.
 const ROOM: usize = printing::LONGEST + 1686;
 
-fn main() {
-    let file = os::open_read(b"tables");
-    if file < 0 {
-        os::fail(b"tables");
-        return;
+fn main(rt: HostRuntime) -> Result<()> {
+    match File::open(&rt, "tables") {
+        Ok(file) => judge_all(rt, file),
+        Err(error) => fail(rt, b"tables", error),
     }
-    judge_all(file);
-    libc::close(file);
 }
 
 // A proved loop has to end, and nothing says that a file does. So the loop counts the tables, up to a number that no file reaches.
-fn judge_all(file: i32) {
+fn judge_all(rt: HostRuntime, mut file: File) -> Result<()> {
     let mut number: u64 = 0;
-    while number < u64::MAX && judge_next(file, number) {
+    while number < u64::MAX && judge_next(rt, &mut file, number)? {
         number += 1;
     }
+    Ok(())
 }
 
 // Reads the lengths of the next entry and judges it; false where the file has ended.
-fn judge_next(file: i32, number: u64) -> bool {
+fn judge_next(rt: HostRuntime, file: &mut File, number: u64) -> Result<bool> {
     let mut head = [0u8; 4];
-    let taken = io::read_full(file, &mut head);
+    let taken = read_full(file, &mut head);
     if taken < 4 {
-        return false;
+        return Ok(false);
     }
     let length = count(head[0]) * 256 + count(head[1]);
-    judge_entry(file, number, length, count(head[2]), count(head[3]));
-    true
+    judge_entry(rt, file, number, length, count(head[2]), count(head[3]))?;
+    Ok(true)
 }
 
 // Makes room for a table of the length that its entry names.
-fn judge_entry(file: i32, number: u64, length: usize, answers_length: usize, rounds_length: usize)
+fn judge_entry(
+    rt: HostRuntime,
+    file: &mut File,
+    number: u64,
+    length: usize,
+    answers_length: usize,
+    rounds_length: usize,
+) -> Result<()>
     requires length_len_bound { length < 65536 }
     requires answers_length_bound { answers_length < 256 }
     requires rounds_length_bound { rounds_length < 256 }
 {
-    let mut space = io::large_buffer();
+    let mut space = [0u8; 65536];
     read_table(
+        rt,
         file,
         number,
         &mut space[..length],
         answers_length,
         rounds_length,
-    );
+    )
 }
 
 // Reads the table, or what there is of it.
-fn read_table(file: i32, number: u64, table: &mut [u8], answers_length: usize, rounds_length: usize)
+fn read_table(
+    rt: HostRuntime,
+    file: &mut File,
+    number: u64,
+    table: &mut [u8],
+    answers_length: usize,
+    rounds_length: usize,
+) -> Result<()>
     requires answers_length_bound { answers_length < 256 }
     requires rounds_length_bound { rounds_length < 256 }
 {
-    let taken = io::read_full(file, table);
-    lend(number, &table[..taken], answers_length, rounds_length);
+    let taken = read_full(file, table);
+    lend(rt, number, &table[..taken], answers_length, rounds_length)
 }
 
 // Lends slices of the lengths that the entry names; the engine's is as long as that for answers.
-fn lend(number: u64, table: &[u8], answers_length: usize, rounds_length: usize)
+fn lend(
+    rt: HostRuntime,
+    number: u64,
+    table: &[u8],
+    answers_length: usize,
+    rounds_length: usize,
+) -> Result<()>
     requires answers_length_bound { answers_length < 256 }
     requires rounds_length_bound { rounds_length < 256 }
 {
@@ -95,6 +118,7 @@ fn lend(number: u64, table: &[u8], answers_length: usize, rounds_length: usize)
     let mut old_answers = filler();
     let mut old_rounds = filler();
     judge(
+        rt,
         number,
         table,
         &mut answers[..answers_length],
@@ -102,22 +126,28 @@ fn lend(number: u64, table: &[u8], answers_length: usize, rounds_length: usize)
         &mut played[..answers_length],
         &mut old_answers[..answers_length],
         &mut old_rounds[..rounds_length],
-    );
-    lend_past(table, answers_length, rounds_length);
+    )?;
+    lend_past(rt, table, answers_length, rounds_length)
 }
 
 // The same for the second analysis: two slices, as long as the first analysis's.
-fn lend_past(table: &[u8], answers_length: usize, tried_length: usize)
+fn lend_past(
+    rt: HostRuntime,
+    table: &[u8],
+    answers_length: usize,
+    tried_length: usize,
+) -> Result<()>
     requires answers_length_bound { answers_length < 256 }
     requires tried_length_bound { tried_length < 256 }
 {
     let mut answers = filler();
     let mut tried = filler();
     past::judge(
+        rt,
         table,
         &mut answers[..answers_length],
         &mut tried[..tried_length],
-    );
+    )
 }
 
 // Words enough for any length that a byte can name.
@@ -129,6 +159,7 @@ fn filler() -> [u32; 256]
 
 // Judges one table, and writes its text in one call.
 fn judge(
+    rt: HostRuntime,
     number: u64,
     table: &[u8],
     answers: &mut [u32],
@@ -136,7 +167,7 @@ fn judge(
     played: &mut [u32],
     old_answers: &mut [u32],
     old_rounds: &mut [u32],
-) {
+) -> Result<()> {
     let verdict = response::analyse(table, answers, rounds);
     let old = response::analyse_from(Start::OwnCost, table, old_answers, old_rounds);
     let heard = engine::play(table, played);
@@ -158,7 +189,7 @@ fn judge(
         first.0,
         same_outcome(verdict, old, answers, old_answers) && stay(old_rounds, first),
     );
-    io::write_all(STDOUT_FILENO, &out[..end]);
+    rt.write_all(&out[..end])
 }
 
 // The first word that is not to be written: a refusal changes no word.

@@ -4,17 +4,17 @@ ghost use Rattle.worked.specs.Past.{past_text};
 
 use crate::numbers::append_line;
 use crate::stay;
-use libc::STDOUT_FILENO;
 use model::Place;
 use overlaps::{Found, analyse_past_period};
 use past_text::found_line;
 use printing::append;
+use std::io::Result;
 
 // Bytes enough for its lines: at most 30 with what is found, 2,206 with the answers of 200 tasks, 606 with the numbers tried and 8 more.
 const ROOM: usize = 2850;
 
 // Judges one table, and writes its lines in one call.
-pub fn judge(table: &[u8], answers: &mut [u32], tried: &mut [u32]) {
+pub fn judge(rt: HostRuntime, table: &[u8], answers: &mut [u32], tried: &mut [u32]) -> Result<()> {
     let found = analyse_past_period(table, answers, tried);
     let first = first_to_stay(table, found);
     let mut out = [0u8; ROOM];
@@ -27,7 +27,7 @@ pub fn judge(table: &[u8], answers: &mut [u32], tried: &mut [u32]) {
         first.0,
         stay(answers, first) && stay(tried, first),
     );
-    io::write_all(STDOUT_FILENO, &out[..end]);
+    rt.write_all(&out[..end])
 }
 
 // The first word that is not to be written: a refusal changes no word.

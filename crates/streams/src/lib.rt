@@ -1,0 +1,46 @@
+// What the programs do with a stream beyond one read or one write: they fill a buffer, and say why something failed.
+#![tactic(auto)]
+
+ghost use Rattle.io.specs.Counts.{IsPrefixLen};
+
+use std::io::{Cursor, Error, Read, Result, Write};
+
+// Room for the system's words for an error and its number: the library keeps 256 bytes of words.
+const ROOM: usize = 300;
+
+// Reads until the buffer is full, the input ends or a read fails, and answers how many bytes stand at the buffer's start. On an empty
+// buffer it does not read.
+pub fn read_full<R: Read>(input: &mut R, buffer: &mut [u8]) -> usize
+    ensures { IsPrefixLen result buffer.new }
+{
+    let mut done = 0;
+    while done < buffer.len() {
+        let count = input.read(&mut buffer[done..]).unwrap_or(0);
+        if count == 0 {
+            break;
+        }
+        done += count;
+    }
+    done
+}
+
+// Writes a line to standard error: what failed, as the caller names it, a colon and the system's words for why.
+pub fn fail(rt: HostRuntime, what: &[u8], error: Error) -> Result<()> {
+    let mut line = Cursor::new([0u8; ROOM]);
+    write!(line, "{error}")?;
+    let end = line.position().min(ROOM as u64) as usize;
+    let text = line.into_inner();
+    let mut to = rt.stderr();
+    Write::write_all(&mut to, what)?;
+    Write::write_all(&mut to, b": ")?;
+    Write::write_all(&mut to, words(&text[..end]))?;
+    Write::write_all(&mut to, b"\n")
+}
+
+// The words alone: the library puts the error's number behind them, in brackets.
+fn words(text: &[u8]) -> &[u8] {
+    match text.iter().rposition(|byte| *byte == b'(') {
+        Some(at) => text[..at].trim_ascii_end(),
+        None => text,
+    }
+}
