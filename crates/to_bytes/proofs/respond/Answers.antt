@@ -5,7 +5,7 @@ use Rattle.to_bytes.proofs.ReadLaws.{answers_text, answer_within}
 use Rattle.to_bytes.proofs.respond.Goals as goal
 
 pub respond-requires : goal.respond-requires
-respond-requires c = (after_roomy c.requires.ended.is, after_long c.requires.ended.is)
+respond-requires c = record { roomy = after_roomy c.requires.ended.is; numbers_len = after_long c.requires.ended.is }
 
 pub returns : goal.returns
 returns c =

@@ -7,7 +7,7 @@ use Rattle.to_bytes.proofs.ReadLaws.{answers_place}
 use Rattle.to_bytes.proofs.respond_place.Goals as goal
 
 pub respond_place-requires : goal.respond_place-requires
-respond_place-requires c = (after_roomy c.requires.is, (after_long c.requires.is, after_placed c.requires.is))
+respond_place-requires c = record { roomy = after_roomy c.requires.is; numbers_len = (after_long c.requires.is, after_placed c.requires.is) }
 
 pub returns : goal.returns
 returns c =
