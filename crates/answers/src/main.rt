@@ -10,6 +10,7 @@ ghost use Rattle.answers.specs.Input.{KeepsRead, PrintsAll};
 
 use intake::{Ended, MOST_KEPT};
 use std::io::{Read as Source, Result};
+use streams::read_some;
 
 // How many bytes were read in all, and by the last read: none at the end of the input.
 #[derive(Clone, Copy)]
@@ -38,7 +39,7 @@ fn take_all<S: Source>(source: &mut S, store: &mut [u8], fill: &mut usize) -> Re
     let mut last: usize = 0;
     intake::begin(fill);
     while total < MOST_KEPT {
-        let count = source.read(&mut piece).unwrap_or(0);
+        let count = read_some(source, &mut piece);
         if count == 0 {
             return Read {
                 total: total,

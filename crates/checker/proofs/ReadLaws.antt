@@ -10,7 +10,7 @@ use lib.ListN.{length, take, length-append}
 use Rattle.io.specs.Counts.{IsPrefixLen}
 use Rattle.model.specs.Choice.{pick}
 use Rattle.scanning.specs.declared.Scan.{Scan}
-use Rattle.scanning.specs.Pieces.{start, state_after, ended_in, scan_after, kept_after, stuck, More, Within, Gone, gone, through, all_through}
+use Rattle.scanning.specs.Pieces.{start, state_after, ended_in, scan_after, kept_after, stuck, More, Within, Gone, through}
 use Rattle.scanning.proofs.PieceLaws.{kept_long, pieces_right}
 use Rattle.checking.specs.Text.{check_text}
 use Rattle.checking.specs.Pieces.{words_kept, line_after}

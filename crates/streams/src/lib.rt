@@ -1,4 +1,4 @@
-// What the programs do with a stream beyond one read or one write: they fill a buffer, and say why something failed.
+// What the programs do with a stream: they read from it, where a read that fails is the end, and say why something failed.
 #![tactic(auto)]
 
 ghost use Rattle.io.specs.Counts.{IsPrefixLen};
@@ -8,6 +8,13 @@ use std::io::{Cursor, Error, Read, Result, Write};
 // Room for the system's words for an error and its number: the library keeps 256 bytes of words.
 const ROOM: usize = 300;
 
+// Reads once, and answers how many bytes stand at the buffer's start: none at the end of the input, and none where the read fails.
+pub fn read_some<R: Read>(input: &mut R, buffer: &mut [u8]) -> usize
+    ensures { IsPrefixLen result buffer.new }
+{
+    input.read(buffer).unwrap_or(0)
+}
+
 // Reads until the buffer is full, the input ends or a read fails, and answers how many bytes stand at the buffer's start. On an empty
 // buffer it does not read.
 pub fn read_full<R: Read>(input: &mut R, buffer: &mut [u8]) -> usize
@@ -15,7 +22,7 @@ pub fn read_full<R: Read>(input: &mut R, buffer: &mut [u8]) -> usize
 {
     let mut done = 0;
     while done < buffer.len() {
-        let count = input.read(&mut buffer[done..]).unwrap_or(0);
+        let count = read_some(input, &mut buffer[done..]);
         if count == 0 {
             break;
         }
