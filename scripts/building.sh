@@ -1,5 +1,6 @@
-# What ./answers and ./library share: messages, and proving and building with a line for each crate. They set "command", the name
-# that stands before each message, and "top", the project's folder, and then read this file.
+# What ./answers, ./library and scripts/archives share: messages, which crates stand on which, and having rt build one of them, with a
+# line for each crate that it proves on the way. They set "command", the name that stands before each message, and "top", the project's
+# folder, and then read this file.
 # "-nt" is in every sh that Debian has.
 # shellcheck shell=sh disable=SC2154,SC3013
 
@@ -8,7 +9,9 @@ fail() { # STATUS MESSAGE
     exit "$1"
 }
 
-# crates_below CRATE..: these and all that they stand on, each behind what it stands on.
+# ---- The crates. A line of crates.txt has the crate's name first, and behind the colon what it stands on.
+
+# crates_below CRATE..: these and all that they stand on, each behind what it stands on. In this order rt builds them.
 crates_below() {
     WANTED="$*" awk '
         function visit(name,    parts, count, k) {
@@ -19,9 +22,14 @@ crates_below() {
             print name
         }
         { sub(/#.*/, "") }
-        index($0, ":") { at = index($0, ":"); name = substr($0, 1, at - 1); gsub(/[ \t]/, "", name); below[name] = substr($0, at + 1) }
+        index($0, ":") { at = index($0, ":"); split(substr($0, 1, at - 1), words, " "); below[words[1]] = substr($0, at + 1) }
         END { count = split(ENVIRON["WANTED"], wanted, " "); for (k = 1; k <= count; k++) visit(wanted[k]) }
     ' "$top/crates.txt"
+}
+
+# static_libraries: the crates with a function for C.
+static_libraries() {
+    awk '{ sub(/#.*/, ""); sub(/:.*/, "") } $2 == "staticlib" { print $1 }' "$top/crates.txt"
 }
 
 # changed_since FILE CRATE..: is a source of these crates, or of one that they stand on, newer than the file?
@@ -33,31 +41,34 @@ changed_since() {
     for crate in $below; do
         set -- "$@" "$top/crates/$crate"
     done
-    [ -n "$(find "$@" -newer "$built" -type f \( -path '*/src/*' -o -path '*/specs/*' -o -path '*/proofs/*' -o -name crates.txt \))" ]
+    [ -n "$(find "$@" -name out -prune -o -newer "$built" -type f \( -path '*/src/*' -o -path '*/specs/*' -o -path '*/proofs/*' -o -name crates.txt \) -print)" ]
 }
 
-# unproved CRATE..: of the crates below these, those that have changed since they were last proved, or stand on one that has. It
-# goes by the files' times, so that it may name a crate too many; rt goes by what the files hold.
+# is_made FILE CRATE: is the file there, and no older than what the crate is made of?
+is_made() {
+    [ -f "$1" ] || return 1
+    if changed_since "$1" "$2"; then return 1; fi
+}
+
+# unproved CRATE..: these, and of the crates below them those that have changed since rt last built them, or stand on one that has. rt
+# leaves a stamp beside each library that it builds for one of these commands. It is the files' times that are looked at, so that a
+# crate too many may be named; rt goes by what the files hold.
 unproved() {
     changed=' '
     for crate in $(crates_below "$@"); do
+        case " $* " in *" $crate "*) changed="$changed$crate " && continue ;; esac
         for lower in $(crates_below "$crate"); do
             case $changed in *" $lower "*) changed="$changed$crate " && continue 2 ;; esac
         done
-        stamp=$top/target/stamp/$crate
-        if [ ! -f "$stamp" ] || [ -n "$(find "$top/crates/$crate" -newer "$stamp" -type f ! -path '*/must-fail/*')" ]; then
+        stamp=$top/crates/$crate/out/rlib/stamp
+        if [ ! -f "$stamp" ] || [ -n "$(find "$top/crates/$crate" -name out -prune -o -newer "$stamp" -type f ! -path '*/must-fail/*' -print)" ]; then
             changed="$changed$crate "
         fi
     done
     printf '%s\n' "$changed"
 }
 
-# begun CRATE: has the rt that runs now come to it, and found that it is to be proved? rt keeps what it says of each crate in
-# target/log/CRATE.out, and a stamp for each crate that is proved.
-begun() {
-    [ "$top/target/log/$1.out" -nt "$top/target/building/began" ] || return 1
-    [ ! -e "$top/target/stamp/$1" ] || [ "$top/target/stamp/$1" -nt "$top/target/building/began" ]
-}
+# ---- What is told of a build.
 
 # tell_proving CRATE LEFT
 tell_proving() {
@@ -68,19 +79,20 @@ tell_proving() {
     esac >&2
 }
 
-# tell_begun CRATE..: a line for each of these that has been begun since the last look.
+# tell_begun: a line for each crate that rt has begun to prove since the last look. For each it says how many jobs it chose. "awaited" are
+# the crates that are still to come, in their order.
 tell_begun() {
-    for crate; do
+    # shellcheck disable=SC2013 # (a crate's name is one word)
+    for crate in $(sed -n 's/^rt: chose --jobs [0-9]* for //p' "$top/target/building/log"); do
         case $told in *" $crate "*) continue ;; esac
-        begun "$crate" || continue
         told="$told$crate "
-        left=$later
-        for other in $awaited; do
-            [ "$top/target/log/$other.out" -nt "$top/target/building/began" ] || left=$((left + 1))
-        done
-        tell_proving "$crate" "$left"
+        case $awaited in *" $crate "*) awaited=" ${awaited#*" $crate "}" ;; esac
+        # shellcheck disable=SC2086
+        tell_proving "$crate" "$(set -- $awaited && echo $#)"
     done
 }
+
+# ---- Building.
 
 # One command builds at a time. The lock goes with the process that builds, also where this one is killed.
 take_lock() {
@@ -110,38 +122,27 @@ stop_building() { # STATUS
     exit "$1"
 }
 
-# prove LATER CRATE..: has rt prove these crates and all that they stand on, and build those of them that are programs, and tells
-# which crate it proves. So many more are to be proved later.
-prove() {
-    later=$1
-    shift
-    below=$(crates_below "$@")
+# await CRATE..: these are to be built, one after the other.
+await() {
     awaited=$(unproved "$@")
     told=' '
-    : >"$top/target/building/began"
-    run_rt "$below" check "$@"
 }
 
-# run_rt CRATES WORD..: runs "rt WORD.." and tells which of the crates it proves. What it says is shown where it fails.
+# run_rt CRATE WORD: runs "rt WORD" in the crate's folder, and tells which crates it proves. What it says is kept for show_log.
 run_rt() {
-    watched=$1
-    shift
     # a group of its own: a signal for this command is to end all that rt has started
-    (cd "$top" && exec setsid rt "$@") >"$top/target/building/log" 2>&1 </dev/null &
+    (cd "$top/crates/$1" && exec setsid rt "$2") >"$top/target/building/log" 2>&1 </dev/null &
     building=$!
     trap 'stop_building 129' HUP
     trap 'stop_building 130' INT
     trap 'stop_building 143' TERM
-    # shellcheck disable=SC2086
     while kill -0 "$building" 2>/dev/null; do
-        tell_begun $watched
+        tell_begun
         sleep 0.2
     done
-    # shellcheck disable=SC2086
-    tell_begun $watched
+    tell_begun
     exit_on_signals
-    wait "$building" || {
-        cat "$top/target/building/log" >&2
-        return 1
-    }
+    wait "$building"
 }
+
+show_log() { cat "$top/target/building/log" >&2; }

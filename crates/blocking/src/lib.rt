@@ -1,5 +1,7 @@
 // Blocking by priority ceiling, of all tasks in one sweep from the last row and the last task to the first: each row is taken in once, and each
 // task answered once. It rests on the order of an accepted table: priorities do not rise, and rows do not fall by place.
+#![tactic(auto)]
+
 ghost use Rattle.std.specs.Prelude.{◌≡◌, ℕ, ◌<◌, length, get_or, set};
 ghost use Rattle.model.specs.Lists.{filled, largest_to, word_of};
 ghost use Rattle.blocking.specs.Slices.{blocking_at, RowsHeld};

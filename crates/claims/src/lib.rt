@@ -236,7 +236,7 @@ pub fn place(claimed: Claimed) -> usize
     }
 }
 
-// The answer in one number, for C: the code in the upper 32 bits, the place in the lower 32.
+// The answer in one number: the code in the upper 32 bits, the place in the lower 32.
 fn pack(claimed: Claimed) -> u64
     requires { claimed_place claimed < 65536 }
     ensures { result ≡ packed_claimed claimed }
@@ -244,9 +244,8 @@ fn pack(claimed: Claimed) -> u64
     (code(claimed) as u64) * 4294967296 + (place(claimed) as u64)
 }
 
-// The same for C. include/ulmerascio.h says how to call it and how to take the number apart.
-#[unsafe(no_mangle)]
-pub extern "C" fn ulmerascio_check_claims(table: &[u8], claims: &[u32]) -> u64
+// What `check_claims` says, in one number, for C (crates/claims_c).
+pub fn packed_claims(table: &[u8], claims: &[u32]) -> u64
     ensures { result ≡ packed table.now claims.now }
 {
     pack(check_claims(table, claims))

@@ -1,15 +1,14 @@
 -- Demand is monotone in w, and at least base: for any list of loads.
 -- Assumes nothing.
-use Prim.Native.Nat.{ℕ, zero, suc, ◌+◌, ◌*◌, ◌≤◌, ◌<◌}
+use Prim.Native.Nat.{ℕ, suc, ◌+◌, ◌≤◌, ◌<◌}
 use native.Mathlib.Omega.{arith}
-use native.Mathlib.Nat.{mul-le-mul_left, le_trans}
-use mathlib.Core.Path.{◌≡◌, refl}
+use native.Mathlib.Nat.{mul-le-mul_left}
+use mathlib.Core.Path.{◌≡◌}
 use mathlib.Core.List.{List, [], ◌∷◌, ◌++◌}
 use lib.ListN.{length, get_or}
 use Rattle.model.specs.Lists.{sum_of}
 use Rattle.model.specs.Tables.{Load}
 use Rattle.model.proofs.Lists.{sum_mono, sum_append}
-use Rattle.equation.specs.Rounding.{ceil_div}
 use Rattle.equation.specs.Demand.{demand, share}
 use Rattle.equation.specs.Laws.{cost_of, no_load}
 use Rattle.equation.proofs.RoundingLaws as rounding

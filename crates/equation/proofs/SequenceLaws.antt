@@ -4,19 +4,16 @@
 use Prim.Native.Nat.{ℕ, zero, suc, ◌+◌, ◌-◌, ◌≤◌, ◌<◌, min}
 use native.Mathlib.Omega.{arith}
 use native.Mathlib.Decide.{ℕ_discrete, dec_le}
-use native.Mathlib.Numerals.{add-one}
-use mathlib.Core.Path.{◌≡◌, refl, sym, ◌∙◌, ap, subst}
-use mathlib.Core.Bool.{Bool, true, false}
+use mathlib.Core.Path.{◌≡◌, subst}
+use mathlib.Core.Bool.{true, false}
 use mathlib.Core.List.{List}
-use lib.ListN.{length, get_or}
-use lib.Dec.{eqb, ltb}
-use borrow.Author.Tests.{eq-eqb, eqb-false, lt-ltb, ltb-false, ne_eqb, le-ltb}
+use lib.Dec.{eqb}
+use borrow.Author.Tests.{eqb-false, lt-ltb, ltb-false}
 use Rattle.model.specs.Lists.{sum_of}
 use Rattle.model.specs.Tables.{Load}
-use Rattle.model.specs.Search.{first_from}
 use Rattle.model.proofs.Search as search_laws
-use Rattle.model.proofs.Tests.{not_either, either_left, either_right, clash}
-use Rattle.equation.specs.Demand.{demand, share}
+use Rattle.model.proofs.Tests.{not_either, either_right}
+use Rattle.equation.specs.Demand.{demand}
 use Rattle.equation.specs.Sequence.{term, stops, rounds}
 use Rattle.equation.specs.Laws.{IsSmallest, NotAbove, SequenceReaches, ThreeStarts, cost_of, RoundsMean, RoundsBound}
 use Rattle.equation.proofs.DemandLaws as demands

@@ -1,4 +1,6 @@
 // Joseph and Pandya's equation, over numbers alone: no bytes, no tables, no tasks.
+#![tactic(auto)]
+
 ghost use Rattle.std.specs.Prelude.{◌≡◌, ◌+◌, ◌-◌, ◌≤◌};
 ghost use Rattle.model.specs.Lists.{total, sum_of};
 ghost use Rattle.equation.specs.Rounding.{ceil_div};

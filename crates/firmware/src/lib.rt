@@ -1,4 +1,6 @@
 // The dock controller's C interface. A slice passes as a pointer and then a length.
+#![tactic(auto)]
+
 ghost use Rattle.equation.specs.declared.Start.TheVariants.{EveryCost};
 ghost use Rattle.response.specs.Packing.{PackedOutcome};
 

@@ -7,7 +7,7 @@ ghost use Rattle.intake.specs.Intake.{held, begun_fill, condition_for, fill_afte
 use printing::append;
 use response::{Verdict, analyse};
 
-mod numbers;
+pub mod numbers;
 
 // Bytes that are kept of a table: one more than the longest has, so that a longer one is seen to be too long.
 pub const MOST_KEPT: usize = 4590;

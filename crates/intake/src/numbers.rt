@@ -1,7 +1,6 @@
-// The intake's C interface. A slice passes as a pointer and then a length; include/ulmerascio.h says how to call it and how to take the
-// number apart.
+// What the intake says, in numbers, for C (crates/intake_c).
 ghost use Rattle.std.specs.Prelude.{◌≡◌, ◌<◌};
-ghost use Rattle.intake.specs.Intake.{held, begun_fill};
+ghost use Rattle.intake.specs.Intake.{held};
 ghost use Rattle.intake.specs.Numbers.{condition_code, ended_place, packed_ended, NumberedTake, NumberedEnd};
 
 use crate::{Condition, Ended};
@@ -30,27 +29,15 @@ fn pack_ended(ended: Ended) -> u64
     }
 }
 
-#[unsafe(no_mangle)]
-pub extern "C" fn ulmerascio_intake_begin(fill: &mut usize)
-    ensures { fill.new ≡ begun_fill }
-{
-    crate::begin(fill);
-}
-
-#[unsafe(no_mangle)]
-pub extern "C" fn ulmerascio_intake_take(store: &mut [u8], fill: &mut usize, piece: &[u8]) -> u32
+// As `take`.
+pub fn numbered_take(store: &mut [u8], fill: &mut usize, piece: &[u8]) -> u32
     ensures { NumberedTake (held store.old fill.old) piece.now result (held store.new fill.new) }
 {
     code(crate::take(store, fill, piece))
 }
 
-#[unsafe(no_mangle)]
-pub extern "C" fn ulmerascio_intake_end(
-    store: &[u8],
-    fill: &mut usize,
-    answers: &mut [u32],
-    rounds: &mut [u32],
-) -> u64
+// As `end`.
+pub fn numbered_end(store: &[u8], fill: &mut usize, answers: &mut [u32], rounds: &mut [u32]) -> u64
     ensures { NumberedEnd (held store.now fill.old) answers.old rounds.old result fill.new answers.new rounds.new }
 {
     pack_ended(crate::end(store, fill, answers, rounds))

@@ -1,4 +1,6 @@
 // One task: its jobs in the time that it and the tasks that interfere with it keep the processor busy, q = 0, 1, 2 and so on. Numbers only.
+#![tactic(auto)]
+
 ghost use Rattle.std.specs.Prelude.{◌<◌, length};
 ghost use Rattle.jobs.specs.Slices.{studied_from, Beginnable, Searchable, LongestBy};
 

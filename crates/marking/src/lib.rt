@@ -1,5 +1,7 @@
 // The C interface for whoever marks by document 01's rounds (SPECIFICATION 5.1 and 11; document 02, L5). It is a library of its own, so
 // that the controller's has the default start alone, and does not ask at run time which start to take.
+#![tactic(auto)]
+
 ghost use Rattle.equation.specs.declared.Start.TheVariants.{OwnCost};
 ghost use Rattle.response.specs.Packing.{PackedOutcome};
 

@@ -1,5 +1,7 @@
 // The marks of loads. In w ticks a load begins as many of its periods as w + spread holds, rounded up. Its mark is the last w for which
 // that number holds: until w has passed it, the load asks for no more than it did.
+#![tactic(auto)]
+
 ghost use Rattle.std.specs.Prelude.{◌≡◌, ◌+◌, ◌-◌, ◌*◌, ◌≤◌, ◌<◌, min, length, set};
 ghost use Rattle.model.specs.Lists.{filled, word_of};
 ghost use Rattle.marks.specs.Marks.{raise, never, first_mark, first_mark_at, first_mark_for, least_from, begun_past, moved_mark, Markable, NextBelow, Passable, Passed, Advanced};

@@ -3,13 +3,12 @@
 use Prim.Native.Nat.{ℕ, zero, suc, ◌+◌, ◌≤◌, ◌<◌}
 use native.Mathlib.Omega.{arith}
 use native.Mathlib.Decide.{ℕ_discrete}
-use native.Mathlib.Nat.{add-suc, suc-add, add-zero}
+use native.Mathlib.Nat.{add-suc}
 use mathlib.Core.Path.{◌≡◌, refl, sym, ◌∙◌, subst}
 use mathlib.Core.Bool.{Bool, true, false}
-use mathlib.Core.Logic.{◌⊎◌, inl, inr}
-use Rattle.model.specs.Choice.{pick}
+use mathlib.Core.Logic.{inl, inr}
 use Rattle.model.specs.Search.{first_from}
-use Rattle.model.proofs.Tests.{bool?, clash}
+use Rattle.model.proofs.Tests.{bool?}
 
 -- what the search gives at a number that passes, and at one that fails
 found_here : (test : ℕ → Bool) (start count : ℕ) → test start ≡ true → first_from test start (suc count) ≡ start

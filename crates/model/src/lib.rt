@@ -1,5 +1,7 @@
 // Three kinds of number that must not be mixed up by accident: a count of ticks, a priority, and a task's place in its table.
 // A slice holds plain u32 or u8; a single value is one of these, and crossing from one to another is written out.
+#![tactic(auto)]
+
 ghost use Rattle.std.specs.Prelude.{◌≡◌, max};
 
 #[derive(Clone, Copy)]

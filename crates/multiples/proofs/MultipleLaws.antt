@@ -1,6 +1,6 @@
 -- The least common multiple: what the search finds, that there is no second, and one number more.
 -- Assumes nothing.
-use Prim.Native.Nat.{ℕ, zero, suc, ◌+◌, ◌*◌, ◌/◌, ◌%◌, ◌≤◌, ◌∣◌}
+use Prim.Native.Nat.{ℕ, zero, suc, ◌*◌, ◌/◌, ◌%◌, ◌≤◌, ◌∣◌}
 use native.Mathlib.Omega.{arith}
 use native.Mathlib.Decide.{dec_le}
 use native.Mathlib.Nat.{le_trans, div-le_self, mul-le-mul, mul-pos, mul_assoc, mul_comm, mul-div_cancel', eq_of_mul-eq-mul_left, mod-lt, pos_of_dvd_of_pos, dvd_trans, dvd-mul_left, dvd-mul_right, dvd-mul_left_of_dvd, dvd-mod_iff, dvd_antisymm, mod-eq-zero_of_dvd, dvd_of_mod-eq-zero, dvd_of_mul-dvd-mul_right, mul-dvd-mul_left, dvd_refl, one-dvd}

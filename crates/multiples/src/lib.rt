@@ -1,4 +1,6 @@
 // The least common multiple of a table's periods (SPECIFICATION 13.12; document 02, L10).
+#![tactic(auto)]
+
 ghost use Rattle.std.specs.Prelude.{◌≡◌, [], ◌∷◌, ◌≤◌, ltb};
 ghost use Rattle.tables.specs.Layout.{tasks_of};
 ghost use Rattle.tables.specs.Meaning.{TableRight};

@@ -252,7 +252,7 @@ pub fn place(found: Found) -> usize
     }
 }
 
-// The answer in one number, for C: the code in the upper 32 bits, the place in the lower 32.
+// The answer in one number: the code in the upper 32 bits, the place in the lower 32.
 fn pack(found: Found) -> u64
     requires { found_place found < 65536 }
     ensures { result ≡ packed found }
@@ -260,13 +260,8 @@ fn pack(found: Found) -> u64
     (code(found) as u64) * 4294967296 + (place(found) as u64)
 }
 
-// The same for C. include/ulmerascio.h says how to call it and how to take the number apart.
-#[unsafe(no_mangle)]
-pub extern "C" fn ulmerascio_analyse_past_period(
-    table: &[u8],
-    answers: &mut [u32],
-    tried: &mut [u32],
-) -> u64
+// What `analyse_past_period` says, in one number, for C (crates/overlaps_c).
+pub fn packed_past_period(table: &[u8], answers: &mut [u32], tried: &mut [u32]) -> u64
     ensures { PackedOutcome table.now answers.old tried.old result answers.new tried.new }
 {
     pack(analyse_past_period(table, answers, tried))

@@ -1,4 +1,6 @@
 // The engine's C interface, in a library of its own: one that links the analysis alone does not carry it, or pay for it.
+#![tactic(auto)]
+
 ghost use Rattle.player.specs.Packing.{PackedPlay};
 
 use response::pack;

@@ -1,4 +1,6 @@
 // Reads a table into columns, up to the first fault. Every entry that takes a table reads it here.
+#![tactic(auto)]
+
 ghost use Rattle.std.specs.Prelude.{◌≡◌, ◌≤◌, ltb, length};
 ghost use Rattle.model.specs.Lists.{largest_to, word_of};
 ghost use Rattle.tables.specs.declared.Check.TheVariants.{Clean};

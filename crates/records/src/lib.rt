@@ -1,4 +1,6 @@
 // The task records: refusals 5 and 6, and the fields of each record, read once.
+#![tactic(auto)]
+
 ghost use Rattle.std.specs.Prelude.{◌≡◌, ◌+◌, ◌*◌, ◌≤◌, ◌<◌, length};
 ghost use Rattle.tables.specs.Layout.{Sound, word_at, jitter_at, latest_at, record_from};
 ghost use Rattle.tables.specs.Rules.{longest_deadline};

@@ -1,4 +1,6 @@
 // The solver: follows the written sequence of a task to its end, over numbers alone.
+#![tactic(auto)]
+
 ghost use Rattle.std.specs.Prelude.{◌+◌, ◌≤◌, ◌<◌, ◌≡◌, eqb, leb, length};
 ghost use Rattle.model.specs.Choice.{both};
 ghost use Rattle.equation.specs.Slices.{loads, LoadsFit};

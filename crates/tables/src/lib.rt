@@ -1,4 +1,6 @@
 // House form, versions 1 to 3: where each field stands, the refusals in their order, and the table that accepted bytes mean.
+#![tactic(auto)]
+
 ghost use Rattle.std.specs.Prelude.{◌≡◌};
 ghost use Rattle.tables.specs.Refusals.{number_of, place_of, is_clean};
 

@@ -1,5 +1,7 @@
 // The engine (SPECIFICATION 9; document 02, L1 and L9) over numbers alone, as crates/machine has it: it plays tick after tick, and knows no
 // bytes and no tables.
+#![tactic(auto)]
+
 ghost use Rattle.std.specs.Prelude.{◌≡◌, ◌+◌, ◌-◌, ◌/◌, ◌≤◌, ◌<◌, eqb, ltb, length, set};
 ghost use Rattle.model.specs.Choice.{pick};
 ghost use Rattle.model.specs.Lists.{filled, largest_to, word_of};

@@ -1,4 +1,6 @@
 // How much time a table's tasks ask for, and the Liu and Layland bound that is printed beside it (SPECIFICATION 13.12; document 02, L10).
+#![tactic(auto)]
+
 ghost use Rattle.std.specs.Prelude.{◌≡◌, ◌≤◌};
 ghost use Rattle.tables.specs.Layout.{tasks_of};
 ghost use Rattle.tables.specs.Meaning.{TableRight};

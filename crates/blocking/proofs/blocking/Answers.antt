@@ -1,9 +1,8 @@
 -- `blocking::blocking` meets its contract: each turn takes in a row or answers a task, by the laws of `SweepLaws`.
 -- Assumes nothing.
-use Prim.Native.Nat.{◌+◌, ◌-◌}
 use native.Mathlib.Omega.{arith}
 use borrow.Author.Rules.{rules}
-use Rattle.blocking.proofs.SweepLaws.{Swept, semaphores_held, swept_none, swept_out, swept_all, semaphore_low, one_left, swept_row, swept_task}
+use Rattle.blocking.proofs.SweepLaws.{swept_none, swept_out, swept_all, one_left, swept_row, swept_task}
 use Rattle.blocking.proofs.blocking.Goals as goal
 
 pub loop-i-init : goal.loop-i-init

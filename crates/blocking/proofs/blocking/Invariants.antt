@@ -1,7 +1,5 @@
-use Prim.Native.Nat.{◌+◌, ◌-◌}
-use native.Mathlib.Omega.{arith}
-use borrow.Author.Rules.{rules}
-use Rattle.blocking.proofs.SweepLaws.{Swept, semaphores_held, swept_none, swept_out, swept_all, semaphore_low, one_left, swept_row, swept_task}
+use Prim.Native.Nat.{◌+◌}
+use Rattle.blocking.proofs.SweepLaws.{Swept}
 use Rattle.blocking.proofs.blocking.Given as goal
 
 abbrev pub invariant-loop-i : goal.invariant-loop-i

@@ -1,8 +1,6 @@
 -- `blocking::longest_kept` meets its contract: each turn looks at one word.
 -- Assumes nothing.
-use Prim.Native.Nat.{◌-◌}
-use native.Mathlib.Omega.{arith}
-use Rattle.blocking.proofs.SweepLaws.{Looked, looked_none, looked_more, looked_all}
+use Rattle.blocking.proofs.SweepLaws.{looked_none, looked_more}
 use Rattle.blocking.proofs.longest_kept.Goals as goal
 
 pub loop-s-init : goal.loop-s-init

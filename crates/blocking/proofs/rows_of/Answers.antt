@@ -1,8 +1,7 @@
 -- `blocking::rows_of` meets its contract: after k turns it has counted the first k rows.
 -- Assumes nothing.
-use Prim.Native.Nat.{◌-◌}
 use native.Mathlib.Omega.{arith}
-use Rattle.blocking.proofs.SweepLaws.{Counted, counted_none, counted_more, counted_all, rows_high}
+use Rattle.blocking.proofs.SweepLaws.{counted_none, counted_more, rows_high}
 use Rattle.blocking.proofs.rows_of.Goals as goal
 
 pub loop-k-init : goal.loop-k-init

@@ -1,8 +1,7 @@
 -- `blocking::take_in` meets its contract, by its test.
 -- Assumes nothing.
 use native.Mathlib.Omega.{arith}
-use borrow.Author.Rules.{rules}
-use Rattle.blocking.proofs.SweepLaws.{taken_last, taken_on, most_on}
+use Rattle.blocking.proofs.SweepLaws.{taken_on, most_on}
 use Rattle.blocking.proofs.take_in.Goals as goal
 
 pub returns : goal.returns

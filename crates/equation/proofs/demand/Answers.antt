@@ -1,7 +1,7 @@
 -- `equation::demand` meets its contract: one cost of each load, and what the places before the own and those behind it ask for besides.
 -- Assumes nothing.
 use native.Mathlib.Omega.{arith}
-use Rattle.equation.proofs.SliceLaws.{part_fits, loads_less, demand_parts}
+use Rattle.equation.proofs.SliceLaws.{part_fits, demand_parts}
 use Rattle.equation.proofs.demand.Goals as goal
 
 pub with_more-requires : goal.with_more-requires

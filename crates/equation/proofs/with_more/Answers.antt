@@ -1,8 +1,6 @@
 -- `equation::with_more` meets its contract: after each turn the sum is that of the places so far, and it fits 64 bits.
 -- Assumes nothing.
-use Prim.Native.Nat.{◌-◌}
-use native.Mathlib.Omega.{arith}
-use Rattle.equation.proofs.SliceLaws.{Summing, summing_none, sum_high, summing_more, summed_all}
+use Rattle.equation.proofs.SliceLaws.{sum_high, summing_more, summed_all}
 use Rattle.equation.proofs.with_more.Goals as goal
 
 pub with_load-all-requires : goal.with_load-all-requires

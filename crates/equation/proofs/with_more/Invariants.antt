@@ -1,6 +1,4 @@
-use Prim.Native.Nat.{◌-◌}
-use native.Mathlib.Omega.{arith}
-use Rattle.equation.proofs.SliceLaws.{Summing, summing_none, sum_high, summing_more, summed_all}
+use Rattle.equation.proofs.SliceLaws.{Summing}
 use Rattle.equation.proofs.with_more.Given as goal
 
 abbrev pub invariant-loop-k : goal.invariant-loop-k

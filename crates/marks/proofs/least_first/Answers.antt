@@ -1,11 +1,8 @@
 -- `marks::least_first` meets its contract: after k turns it has the least first mark of k places.
 -- Assumes nothing.
-use Prim.Native.Nat.{◌-◌, ◌≤◌}
 use native.Mathlib.Omega.{arith}
-use mathlib.Core.Path.{◌≡◌, sym}
-use Rattle.marks.specs.Marks.{never, first_mark_at, least_from}
-use Rattle.marks.proofs.PassLaws.{least_none, least_next, least_all}
-use mathlib.Core.Path.{◌∙◌}
+use mathlib.Core.Path.{sym}
+use Rattle.marks.proofs.PassLaws.{least_none, least_next}
 use Rattle.marks.proofs.least_first.Goals as goal
 
 pub loop-k-init : goal.loop-k-init

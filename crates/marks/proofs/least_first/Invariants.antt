@@ -1,8 +1,6 @@
-use Prim.Native.Nat.{◌-◌, ◌≤◌}
-use native.Mathlib.Omega.{arith}
-use mathlib.Core.Path.{◌≡◌, sym}
+use Prim.Native.Nat.{◌≤◌}
+use mathlib.Core.Path.{◌≡◌}
 use Rattle.marks.specs.Marks.{never, first_mark_at, least_from}
-use Rattle.marks.proofs.PassLaws.{least_none, least_next, least_all}
 use Rattle.marks.proofs.least_first.Given as goal
 
 abbrev pub invariant-loop-k : goal.invariant-loop-k

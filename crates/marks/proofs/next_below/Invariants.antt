@@ -1,6 +1,5 @@
 use Prim.Native.Nat.{◌-◌}
-use native.Mathlib.Omega.{arith}
-use Rattle.marks.proofs.PassLaws.{Searching, searching_none, searching_more}
+use Rattle.marks.proofs.PassLaws.{Searching}
 use Rattle.marks.proofs.next_below.Given as goal
 
 abbrev pub invariant-loop-k : goal.invariant-loop-k

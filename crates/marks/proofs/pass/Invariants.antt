@@ -1,6 +1,5 @@
 use Prim.Native.Nat.{◌-◌}
-use native.Mathlib.Omega.{arith}
-use Rattle.marks.proofs.PassLaws.{Passing, passing_none, passing_more, passing_next, passed_all, sum_fits, end_below}
+use Rattle.marks.proofs.PassLaws.{Passing}
 use Rattle.marks.proofs.pass.Given as goal
 
 abbrev pub invariant-loop-k : goal.invariant-loop-k

@@ -1,8 +1,6 @@
 -- `marks::set_first` meets its contract: the loop fills the first marks; then come the 0 behind them and the own mark.
 -- Assumes nothing.
-use Prim.Native.Nat.{◌-◌}
-use native.Mathlib.Omega.{arith}
-use Rattle.marks.proofs.PassLaws.{Setting, setting_none, setting_more, setting_long, setting_longer, set_others, set_own}
+use Rattle.marks.proofs.PassLaws.{setting_none, setting_more, set_others, set_own}
 use Rattle.marks.proofs.set_first.Goals as goal
 
 pub loop-k-init : goal.loop-k-init

@@ -1,11 +1,7 @@
 -- `reading::is_large` meets its contract: the layout is the one that the version decides.
 -- Assumes nothing.
 use native.Mathlib.Omega.{arith}
-use mathlib.Core.Path.{ap}
-use lib.Dec.{ltb}
-use Rattle.tables.specs.declared.layout.Layout.{Layout}
 use Rattle.tables.proofs.CheckLaws.{head_right}
-use borrow.Author.Rules.{rules}
 use Rattle.reading.proofs.is_large.Goals as goal
 
 pub bounds-table-0 : goal.bounds-table-0

@@ -1,11 +1,9 @@
 -- `reading::read` meets its contract: behind a right head the records, and then the rows where no record is refused.
 -- Assumes nothing.
 use native.Mathlib.Omega.{arith}
-use Rattle.model.proofs.Tests.{refuted, confirmed}
 use Rattle.tables.proofs.CheckLaws.{head_right}
 use Rattle.records.specs.Columns.{cost_column}
 use Rattle.reading.proofs.StageLaws.{lent_again, column_room, records_stop, costs_held, rows_decide}
-use borrow.Author.Rules.{rules}
 use mathlib.Core.Path.{sym, ◌∙◌}
 use Rattle.reading.proofs.read.Goals as goal
 

@@ -1,12 +1,9 @@
 -- `records::read_all` meets its contract: each turn takes one record, by the laws of `RecordLaws`, and fills one word of each column.
 -- Assumes nothing.
-use Prim.Native.Nat.{◌-◌}
 use native.Mathlib.Omega.{arith}
 use mathlib.Core.Path.{refl, sym, ◌∙◌}
-use lib.ListN.{length-set}
-use Rattle.model.proofs.Tests.{refuted, confirmed}
-use Rattle.records.proofs.ColumnLaws.{Taking, sound, tasks_fit_law, taking_none, records_more, taking_at}
-use Rattle.records.proofs.RecordLaws.{Reading, reading_none, record_there, start_near, task_is, clean_delays, record_wrong, reading_more, reading_all}
+use Rattle.records.proofs.ColumnLaws.{sound, tasks_fit_law, taking_none, records_more, taking_at}
+use Rattle.records.proofs.RecordLaws.{reading_none, record_there, start_near, task_is, clean_delays, record_wrong, reading_more, reading_all}
 use Rattle.records.proofs.read_all.Goals as goal
 
 pub loop-i-init : goal.loop-i-init
@@ -19,7 +16,7 @@ pub check-found-requires : goal.check-found-requires
 check-found-requires c = (c.requires.head_read.1, start_near _ _ _ _ _ _ _ c.loop-i.invariant.0 c.loop-i-test.true)
 
 pub returns-then-not-is_clean : goal.returns-then-not-is_clean
-returns-then-not-is_clean c =    let w = record_wrong _ _ _ _ _ _ _ c.loop-i.invariant.0 c.loop-i-test.true _ c.read-task.ensures.result_value c.read-task.ensures.priority_bound _ c.check-found.ensures (sym c.is_clean.ensures ∙ c.if-not-is_clean.true) in record { value = w.0; filled = (taking_at c.loop-i.invariant.1 _ _ w.1 refl).0; filled_2 = (taking_at c.loop-i.invariant.1 _ _ w.1 refl).1 }
+returns-then-not-is_clean c = let w = record_wrong _ _ _ _ _ _ _ c.loop-i.invariant.0 c.loop-i-test.true _ c.read-task.ensures.result_value c.read-task.ensures.priority_bound _ c.check-found.ensures (sym c.is_clean.ensures ∙ c.if-not-is_clean.true) in record { value = w.0; filled = (taking_at c.loop-i.invariant.1 _ _ w.1 refl).0; filled_2 = (taking_at c.loop-i.invariant.1 _ _ w.1 refl).1 }
 
 pub overflow_sub-words : goal.overflow_sub-words
 overflow_sub-words c = omega (arith, clean_delays _ _ c.args.layout _ _ _ c.check-found.ensures (sym c.is_clean.ensures ∙ c.if-not-is_clean.false))
@@ -31,7 +28,7 @@ loop-i-preserved c = (
 )
 
 pub returns : goal.returns
-returns c =    let w = reading_all _ _ _ _ c.loop-i.invariant.0 c.loop-i-test.false in record { value = w.0; filled = (taking_at c.loop-i.invariant.1 _ _ w.1 refl).0; filled_2 = (taking_at c.loop-i.invariant.1 _ _ w.1 refl).1 }
+returns c = let w = reading_all _ _ _ _ c.loop-i.invariant.0 c.loop-i-test.false in record { value = w.0; filled = (taking_at c.loop-i.invariant.1 _ _ w.1 refl).0; filled_2 = (taking_at c.loop-i.invariant.1 _ _ w.1 refl).1 }
 
 pub overflow_add-at : goal.overflow_add-at
 overflow_add-at c = omega (arith, record_there _ _ _ _ _ _ _ c.loop-i.invariant.0 c.loop-i-test.true, c.well_formed)

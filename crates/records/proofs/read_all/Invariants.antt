@@ -1,10 +1,5 @@
-use Prim.Native.Nat.{◌-◌}
-use native.Mathlib.Omega.{arith}
-use mathlib.Core.Path.{refl, sym, ◌∙◌}
-use lib.ListN.{length-set}
-use Rattle.model.proofs.Tests.{refuted, confirmed}
-use Rattle.records.proofs.ColumnLaws.{Taking, sound, tasks_fit_law, taking_none, records_more, taking_at}
-use Rattle.records.proofs.RecordLaws.{Reading, reading_none, record_there, start_near, task_is, clean_delays, record_wrong, reading_more, reading_all}
+use Rattle.records.proofs.ColumnLaws.{Taking}
+use Rattle.records.proofs.RecordLaws.{Reading}
 use Rattle.records.proofs.read_all.Given as goal
 
 abbrev pub invariant-loop-i : goal.invariant-loop-i

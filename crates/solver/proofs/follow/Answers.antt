@@ -1,12 +1,9 @@
 -- `solver::follow` meets its contract: each turn is one round of the written sequence, by the laws of `RoundLaws` and `SolverLaws`.
 -- Assumes nothing.
-use Prim.Native.Nat.{◌-◌}
 use native.Mathlib.Omega.{arith}
-use mathlib.Core.Path.{◌≡◌, refl, ◌∙◌}
-use lib.ListN.{length}
+use mathlib.Core.Path.{refl, ◌∙◌}
 use Rattle.solver.proofs.SolverLaws.{gained}
-use Rattle.solver.proofs.RoundLaws.{Before, before_first, before_next, may_advance, next_is, x_high, followed_late, followed_found}
-use mathlib.Core.Path.{sym}
+use Rattle.solver.proofs.RoundLaws.{before_first, before_next, next_is, followed_late, followed_found}
 use Rattle.solver.proofs.follow.Goals as goal
 
 pub loop-ahead-init : goal.loop-ahead-init

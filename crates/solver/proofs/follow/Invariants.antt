@@ -1,9 +1,7 @@
 use Prim.Native.Nat.{◌-◌}
-use native.Mathlib.Omega.{arith}
-use mathlib.Core.Path.{◌≡◌, refl, ◌∙◌}
+use mathlib.Core.Path.{◌≡◌}
 use lib.ListN.{length}
-use Rattle.solver.proofs.SolverLaws.{gained}
-use Rattle.solver.proofs.RoundLaws.{Before, before_first, before_next, may_advance, next_is, x_high, followed_late, followed_found}
+use Rattle.solver.proofs.RoundLaws.{Before}
 use Rattle.solver.proofs.follow.Given as goal
 
 abbrev pub invariant-loop-ahead : goal.invariant-loop-ahead

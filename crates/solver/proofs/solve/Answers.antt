@@ -1,9 +1,7 @@
 -- `solver::solve` meets its contract: the start is late, or the answer, or the sequence is followed from the first marks on.
 -- Assumes nothing.
-use borrow.Author.Rules.{rules}
-use native.Mathlib.Omega.{arith}
 use Rattle.solver.proofs.SolverLaws.{start_late}
-use Rattle.solver.proofs.RoundLaws.{markable, solved_at_once, may_follow}
+use Rattle.solver.proofs.RoundLaws.{solved_at_once, may_follow}
 use Rattle.solver.proofs.solve.Goals as goal
 
 pub returns-then-deadline-start : goal.returns-then-deadline-start

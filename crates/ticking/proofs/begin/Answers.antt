@@ -1,9 +1,7 @@
 -- `ticking::begin` meets its contract: before the next release nothing is due, and the next task stays.
 -- Assumes nothing.
-use native.Mathlib.Omega.{arith}
 use Rattle.machine.specs.Slices.{kept}
-use Rattle.machine.proofs.ReleaseLaws.{nothing_due, place_stays, words_left, place_left}
-use borrow.Author.Rules.{rules}
+use Rattle.machine.proofs.ReleaseLaws.{nothing_due, place_stays, place_left}
 use Rattle.ticking.proofs.begin.Goals as goal
 
 pub returns-then-at-next : goal.returns-then-at-next

@@ -1,10 +1,8 @@
 -- `ticking::clear` meets its contract: each turn sets one word to 0.
 -- Assumes nothing.
-use Prim.Native.Nat.{◌-◌, ◌≤◌}
 use native.Mathlib.Omega.{arith}
 use mathlib.Core.Path.{refl}
-use Rattle.model.proofs.Filling.{Filling, filling_none, filling_more, filling_at}
-use Rattle.machine.specs.Machine.{none}
+use Rattle.model.proofs.Filling.{filling_none, filling_more}
 use Rattle.ticking.proofs.clear.Goals as goal
 
 pub loop-i-init : goal.loop-i-init

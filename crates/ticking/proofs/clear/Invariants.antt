@@ -1,7 +1,5 @@
-use Prim.Native.Nat.{◌-◌, ◌≤◌}
-use native.Mathlib.Omega.{arith}
-use mathlib.Core.Path.{refl}
-use Rattle.model.proofs.Filling.{Filling, filling_none, filling_more, filling_at}
+use Prim.Native.Nat.{◌≤◌}
+use Rattle.model.proofs.Filling.{Filling}
 use Rattle.machine.specs.Machine.{none}
 use Rattle.ticking.proofs.clear.Given as goal
 

@@ -1,10 +1,7 @@
 -- `ticking::largest` meets its contract: each turn looks at one word.
 -- Assumes nothing.
-use Prim.Native.Nat.{◌-◌, ◌≤◌}
 use native.Mathlib.Omega.{arith}
-use mathlib.Core.Path.{◌≡◌}
-use Rattle.model.specs.Lists.{largest_to, word_of}
-use Rattle.machine.proofs.StepLaws.{largest_first, largest_next, largest_all}
+use Rattle.machine.proofs.StepLaws.{largest_first, largest_next}
 use Rattle.ticking.proofs.largest.Goals as goal
 
 pub loop-i-init : goal.loop-i-init

@@ -1,8 +1,6 @@
-use Prim.Native.Nat.{◌-◌, ◌≤◌}
-use native.Mathlib.Omega.{arith}
+use Prim.Native.Nat.{◌≤◌}
 use mathlib.Core.Path.{◌≡◌}
 use Rattle.model.specs.Lists.{largest_to, word_of}
-use Rattle.machine.proofs.StepLaws.{largest_first, largest_next, largest_all}
 use Rattle.ticking.proofs.largest.Given as goal
 
 abbrev pub invariant-loop-i : goal.invariant-loop-i

@@ -1,10 +1,9 @@
 use Prim.Native.Nat.{◌-◌}
-use native.Mathlib.Omega.{arith}
-use mathlib.Core.Path.{◌≡◌, refl}
+use mathlib.Core.Path.{◌≡◌}
 use Rattle.model.specs.Lists.{filled, word_of}
 use Rattle.machine.specs.Slices.{kept}
 use Rattle.ticking.proofs.ReportLaws.{reported}
-use Rattle.ticking.proofs.PlayLaws.{Playing, playing_none, left_long_law, due_long_law, ready_long, nexts_long_law, state_held, state_known, has_next, playing_more, stops_quiet, stops_late, told_none, told_more, told_all, told_late, told_over, told_long}
+use Rattle.ticking.proofs.PlayLaws.{Playing}
 use Rattle.ticking.proofs.play_all.Given as goal
 
 abbrev pub invariant-loop-at : goal.invariant-loop-at

@@ -1,10 +1,8 @@
 -- `utilisation::utilisation` meets its contract: each turn adds the share of one task more.
 -- Assumes nothing.
-use Prim.Native.Nat.{◌-◌}
 use native.Mathlib.Omega.{arith}
-use borrow.Author.Rules.{rules}
-use Rattle.tables.proofs.WalkLaws.{record_there, next_near, period_is, cost_is, period_within}
-use Rattle.utilisation.proofs.SumLaws.{Summing, summing_first, summing_all, next_fits, summing_more}
+use Rattle.tables.proofs.WalkLaws.{record_there, period_is, cost_is, period_within}
+use Rattle.utilisation.proofs.SumLaws.{summing_first, next_fits, summing_more}
 use Rattle.utilisation.proofs.utilisation.Goals as goal
 
 pub loop-i-init : goal.loop-i-init

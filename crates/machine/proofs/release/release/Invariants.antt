@@ -1,7 +1,5 @@
-use Prim.Native.Nat.{◌-◌, ◌<◌}
-use native.Mathlib.Omega.{arith}
-use Rattle.machine.specs.Slices.{kept, words_for}
-use Rattle.machine.proofs.ReleaseLaws.{Looking, looking_none, looking_more, looking_left, looking_due, none_due, work_held, ready_room, nexts_room, next_there, not_past_law, all_released}
+use Rattle.machine.specs.Slices.{kept}
+use Rattle.machine.proofs.ReleaseLaws.{Looking}
 use Rattle.machine.proofs.release.release.Given as goal
 
 abbrev pub invariant-loop-w : goal.invariant-loop-w

@@ -1,9 +1,7 @@
-use Prim.Native.Nat.{◌-◌}
-use native.Mathlib.Omega.{arith}
 use Rattle.model.specs.Lists.{word_of}
-use Rattle.model.proofs.Filling.{Filling, filling_old}
+use Rattle.model.proofs.Filling.{Filling}
 use Rattle.machine.specs.Machine.{left_with, due_with}
-use Rattle.machine.proofs.ReleaseLaws.{Releasing, releasing_none, releasing_more, left_none, due_none, left_more, due_more, some_released}
+use Rattle.machine.proofs.ReleaseLaws.{Releasing}
 use Rattle.machine.proofs.release.release_some.Given as goal
 
 abbrev pub invariant-loop-p : goal.invariant-loop-p

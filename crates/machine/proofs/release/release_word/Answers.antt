@@ -1,9 +1,6 @@
 -- `machine::release::release_word` meets its contract: a word with nothing due stays, and else all its tasks are looked at.
 -- Assumes nothing.
-use native.Mathlib.Omega.{arith}
-use mathlib.Core.Path.{refl}
-use borrow.Author.Rules.{rules}
-use Rattle.machine.proofs.ReleaseLaws.{word_skipped, word_released, tasks_to, work_to}
+use Rattle.machine.proofs.ReleaseLaws.{word_skipped}
 use Rattle.machine.proofs.release.release_word.Goals as goal
 
 pub returns-then-at-next : goal.returns-then-at-next

@@ -1,10 +1,6 @@
 -- `machine::words::next_place` meets its contract: the words before the first that is not 0 are passed over.
 -- Assumes nothing.
-use Prim.Native.Nat.{◌-◌, ◌≤◌}
 use native.Mathlib.Omega.{arith}
-use mathlib.Core.Path.{◌≡◌, refl}
-use Rattle.model.specs.Lists.{word_of}
-use Rattle.machine.specs.Machine.{next_from, next_place}
 use Rattle.machine.proofs.WordLaws.{place_here, place_on, place_none}
 use Rattle.machine.proofs.words.next_place.Goals as goal
 

@@ -1,9 +1,7 @@
 use Prim.Native.Nat.{◌-◌, ◌≤◌}
-use native.Mathlib.Omega.{arith}
-use mathlib.Core.Path.{◌≡◌, refl}
+use mathlib.Core.Path.{◌≡◌}
 use Rattle.model.specs.Lists.{word_of}
 use Rattle.machine.specs.Machine.{next_from, next_place}
-use Rattle.machine.proofs.WordLaws.{place_here, place_on, place_none}
 use Rattle.machine.proofs.words.next_place.Given as goal
 
 abbrev pub invariant-loop-w : goal.invariant-loop-w

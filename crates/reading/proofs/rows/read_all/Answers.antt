@@ -1,14 +1,10 @@
 -- `reading::rows::read_all` meets its contract: each turn takes one row, by the laws of `RowLaws`, and fills one word of each column.
 -- Assumes nothing.
-use Prim.Native.Nat.{◌-◌, ◌*◌}
 use native.Mathlib.Omega.{arith}
 use mathlib.Core.Path.{refl, sym, ◌∙◌}
-use lib.ListN.{length-set}
-use Rattle.model.proofs.Tests.{refuted, confirmed}
 use Rattle.tables.proofs.FieldLaws.{clean_only}
-use Rattle.records.specs.Columns.{part}
-use Rattle.records.proofs.ColumnLaws.{Taking, tasks_fit_law, rows_fit_law, rows_end, taking_none, costs_are, rows_more, taking_at}
-use Rattle.reading.proofs.RowLaws.{Scanning, scanning_none, costs_long, fault_of, row_near, as_row, row_wrong, scanning_more, scanning_all}
+use Rattle.records.proofs.ColumnLaws.{tasks_fit_law, rows_fit_law, rows_end, taking_none, costs_are, rows_more, taking_at}
+use Rattle.reading.proofs.RowLaws.{scanning_none, costs_long, fault_of, row_near, as_row, row_wrong, scanning_more, scanning_all}
 use Rattle.reading.proofs.rows.read_all.Goals as goal
 
 pub overflow_mul-at : goal.overflow_mul-at
@@ -24,7 +20,7 @@ pub check-checked-requires : goal.check-checked-requires
 check-checked-requires c = record { at_bound = row_near _ _ _ _ _ _ _ c.loop-k.invariant.0 c.loop-k-test.true _ c.read-row.ensures.result_value c.read-row.ensures.place_bound.1; place_bound = c.read-row.ensures.place_bound; n_in_bounds = costs_long (costs_are c.loop-k.invariant.1) c.loop-k.invariant.0.held }
 
 pub returns-then-not-is_clean : goal.returns-then-not-is_clean
-returns-then-not-is_clean c =    let w = row_wrong _ _ _ _ _ _ _ c.loop-k.invariant.0 c.loop-k-test.true _ c.read-row.ensures.result_value c.read-row.ensures.place_bound.1 _ (fault_of _ _ _ _ _ _ c.check-checked.ensures (costs_are c.loop-k.invariant.1)) ((sym c.is_clean.ensures ∙ c.if-not-is_clean.true)) in record { value = w.0; filled = (taking_at c.loop-k.invariant.1 _ _ refl w.1).0; filled_2 = (taking_at c.loop-k.invariant.1 _ _ refl w.1).1 }
+returns-then-not-is_clean c = let w = row_wrong _ _ _ _ _ _ _ c.loop-k.invariant.0 c.loop-k-test.true _ c.read-row.ensures.result_value c.read-row.ensures.place_bound.1 _ (fault_of _ _ _ _ _ _ c.check-checked.ensures (costs_are c.loop-k.invariant.1)) ((sym c.is_clean.ensures ∙ c.if-not-is_clean.true)) in record { value = w.0; filled = (taking_at c.loop-k.invariant.1 _ _ refl w.1).0; filled_2 = (taking_at c.loop-k.invariant.1 _ _ refl w.1).1 }
 
 pub loop-k-preserved : goal.loop-k-preserved
 loop-k-preserved c = (
@@ -33,4 +29,4 @@ loop-k-preserved c = (
 )
 
 pub returns : goal.returns
-returns c =    let w = scanning_all _ _ _ _ c.loop-k.invariant.0 c.loop-k-test.false in record { value = w.0; filled = (taking_at c.loop-k.invariant.1 _ _ refl w.1).0; filled_2 = (taking_at c.loop-k.invariant.1 _ _ refl w.1).1 }
+returns c = let w = scanning_all _ _ _ _ c.loop-k.invariant.0 c.loop-k-test.false in record { value = w.0; filled = (taking_at c.loop-k.invariant.1 _ _ refl w.1).0; filled_2 = (taking_at c.loop-k.invariant.1 _ _ refl w.1).1 }

@@ -1,12 +1,7 @@
-use Prim.Native.Nat.{◌-◌, ◌*◌}
-use native.Mathlib.Omega.{arith}
-use mathlib.Core.Path.{refl, sym, ◌∙◌}
-use lib.ListN.{length-set}
-use Rattle.model.proofs.Tests.{refuted, confirmed}
-use Rattle.tables.proofs.FieldLaws.{clean_only}
+use Prim.Native.Nat.{◌*◌}
 use Rattle.records.specs.Columns.{part}
-use Rattle.records.proofs.ColumnLaws.{Taking, tasks_fit_law, rows_fit_law, rows_end, taking_none, costs_are, rows_more, taking_at}
-use Rattle.reading.proofs.RowLaws.{Scanning, scanning_none, costs_long, fault_of, row_near, as_row, row_wrong, scanning_more, scanning_all}
+use Rattle.records.proofs.ColumnLaws.{Taking}
+use Rattle.reading.proofs.RowLaws.{Scanning}
 use Rattle.reading.proofs.rows.read_all.Given as goal
 
 abbrev pub invariant-loop-k : goal.invariant-loop-k

@@ -4,7 +4,6 @@ use Rattle.model.proofs.Tests.{refuted, confirmed}
 use native.Mathlib.Omega.{arith}
 use mathlib.Core.Path.{refl, sym, ◌∙◌}
 use Rattle.tables.proofs.HeadLaws.{head_short, head_version, head_tasks, head_rows, head_stated, head_summed, head_clean, summed_small}
-use borrow.Author.Rules.{rules}
 use Rattle.tables.proofs.head.check.Goals as goal
 
 pub returns-then-table-lt-HEAD_SIZE : goal.returns-then-table-lt-HEAD_SIZE
@@ -20,7 +19,7 @@ pub returns-then-not-within-2 : goal.returns-then-not-within-2
 returns-then-not-within-2 c = head_rows _ _ c.of-layout.ensures c.if-table-lt-HEAD_SIZE.false (confirmed refl c.if-not-layout.false) _ _ c.count-n.ensures.0 c.count-m.ensures.0 (sym c.within.ensures ∙ c.if-not-within.false) (sym c.within-2.ensures ∙ c.if-not-within-2.true)
 
 pub returns-then-half-table : goal.returns-then-half-table
-returns-then-half-table c =    head_stated _ _ c.of-layout.ensures c.if-table-lt-HEAD_SIZE.false (confirmed refl c.if-not-layout.false) _ _ c.count-n.ensures.0 c.count-m.ensures.0
+returns-then-half-table c = head_stated _ _ c.of-layout.ensures c.if-table-lt-HEAD_SIZE.false (confirmed refl c.if-not-layout.false) _ _ c.count-n.ensures.0 c.count-m.ensures.0
     (sym c.within.ensures ∙ c.if-not-within.false) (sym c.within-2.ensures ∙ c.if-not-within-2.false)
     (λ e. c.if-half-table.true (c.half.ensures ∙ e))
 
@@ -34,11 +33,11 @@ pub overflow_add-layout-2 : goal.overflow_add-layout-2
 overflow_add-layout-2 c = omega (arith, summed_small c.args.table.now _ c.of-layout.ensures c.if-table-lt-HEAD_SIZE.false _ c.count-n.ensures.0 (sym c.within.ensures ∙ c.if-not-within.false) (confirmed refl c.if-not-layout.false), c.count-m.ensures.1)
 
 pub returns-then-layout-n : goal.returns-then-layout-n
-returns-then-layout-n c =    head_summed _ _ c.of-layout.ensures c.if-table-lt-HEAD_SIZE.false (confirmed refl c.if-not-layout.false) _ _ c.count-n.ensures.0 c.count-m.ensures.0
+returns-then-layout-n c = head_summed _ _ c.of-layout.ensures c.if-table-lt-HEAD_SIZE.false (confirmed refl c.if-not-layout.false) _ _ c.count-n.ensures.0 c.count-m.ensures.0
     (sym c.within.ensures ∙ c.if-not-within.false) (sym c.within-2.ensures ∙ c.if-not-within-2.false)
     c.if-layout-n.true
 
 pub returns : goal.returns
-returns c =    head_clean _ _ c.of-layout.ensures c.if-table-lt-HEAD_SIZE.false (confirmed refl c.if-not-layout.false) _ _ c.count-n.ensures.0 c.count-m.ensures.0
+returns c = head_clean _ _ c.of-layout.ensures c.if-table-lt-HEAD_SIZE.false (confirmed refl c.if-not-layout.false) _ _ c.count-n.ensures.0 c.count-m.ensures.0
     (sym c.within.ensures ∙ c.if-not-within.false) (sym c.within-2.ensures ∙ c.if-not-within-2.false)
     (sym c.half.ensures ∙ c.if-half-table.false) c.if-layout-n.false

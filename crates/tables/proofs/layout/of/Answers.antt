@@ -1,6 +1,5 @@
 -- `tables::layout::of` meets its contract, case by case.
 -- Assumes nothing.
-use borrow.Author.Tests.{ne_eqb}
 use Rattle.tables.specs.Layout.{layout_for}
 use native.Mathlib.Omega.{arith}
 use Rattle.std.proofs.lemmas.Bool.Decides.{nat_tests}

@@ -1,0 +1,5 @@
+use Rattle.answering.proofs.GroupLaws.{Scanning}
+use Rattle.answering.proofs.group_of.Given as goal
+
+abbrev pub invariant-loop-k : goal.invariant-loop-k
+invariant-loop-k l = Scanning l.priorities l.costs l.n l.i l.own l.k l.sum

@@ -1,0 +1,9 @@
+-- `claims::check_large` meets its contract: 200 tasks have room.
+-- Assumes nothing.
+use mathlib.Core.Path.{refl}
+use Rattle.response.proofs.DecodedLaws.{zeros_lent, columns_lent}
+use borrow.Author.Rules.{rules}
+use Rattle.claims.proofs.check_large.Goals as goal
+
+pub check_in-requires : goal.check_in-requires
+check_in-requires c = record { table_value = c.requires.0; lent = (columns_lent 200 c.requires.1 refl refl, zeros_lent 200 c.requires.1) }

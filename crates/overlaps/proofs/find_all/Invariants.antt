@@ -1,0 +1,20 @@
+use Prim.Native.Nat.{◌-◌}
+use native.Mathlib.Omega.{arith}
+use mathlib.Core.Path.{◌≡◌, refl, ◌∙◌}
+use lib.ListN.{length}
+use Rattle.model.proofs.Filling.{Filling, filling_none, filling_more, filling_at}
+use Rattle.solver.proofs.RoundLaws.{markable}
+use Rattle.answering.specs.Slices.{decoded}
+use Rattle.answering.proofs.AnsweringLaws.{Walking, walking_none, walking_more, walked_all, reached_more, reached_fits, own_cost, count_high}
+use Rattle.overlaps.specs.Outcome.{result_of}
+use Rattle.overlaps.specs.Columns.{longest_in, tried_in}
+use Rattle.overlaps.proofs.FindingLaws.{result_none, result_more, result_all, beginnable, word_is_law, tried_is_law}
+use Rattle.overlaps.proofs.find_all.Given as goal
+
+abbrev pub invariant-loop-i : goal.invariant-loop-i
+invariant-loop-i l =
+    Walking (decoded l.priorities l.periods l.costs l.deadlines l.spreads l.latest l.held) l.n l.i l.group.end l.group.costs.0 l.reached.0
+    × (l.found ≡ result_of (longest_in (decoded l.priorities l.periods l.costs l.deadlines l.spreads l.latest l.held) l.n) l.i)
+    × Filling (longest_in (decoded l.priorities l.periods l.costs l.deadlines l.spreads l.latest l.held) l.n) l.n l.i l.initial.answers l.answers
+    × Filling (tried_in (decoded l.priorities l.periods l.costs l.deadlines l.spreads l.latest l.held) l.n) l.n l.i l.initial.tried l.tried
+    × (length l.marks ≡ length l.initial.marks)

@@ -1,0 +1,10 @@
+-- `past_text::past_text` meets its contract: the second analysis, then its text.
+-- Assumes nothing.
+use Rattle.printing.proofs.AppendLaws.{as_text}
+use Rattle.past_text.proofs.AnsweredLaws.{text_of_outcome}
+use borrow.Author.Rules.{rules}
+use mathlib.Core.Bool.{not}
+use Rattle.past_text.proofs.past_text.Goals as goal
+
+pub returns : goal.returns
+returns c = as_text c.text.ensures (text_of_outcome c.args.table.now _ c.analyse_past_period-found.ensures)

@@ -1,0 +1,7 @@
+use Prim.Native.Nat.{◌-◌}
+use native.Mathlib.Omega.{arith}
+use Rattle.printing.proofs.AppendLaws.{Copied, copied_none, copied_more, copied_all}
+use Rattle.printing.proofs.pieces.append.Given as goal
+
+abbrev pub invariant-loop-i : goal.invariant-loop-i
+invariant-loop-i l = Copied l.initial.out l.at l.bytes l.count l.i l.out

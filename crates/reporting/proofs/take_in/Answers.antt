@@ -1,0 +1,25 @@
+-- `reporting::take_in` meets its contract: no table ends, its head has come, or it is whole.
+-- Assumes nothing.
+use Rattle.reporting.proofs.SafeLaws.{come_fits, head_there, kept_within, kept_long, counted_fits}
+use Rattle.reporting.proofs.StreamLaws.{goes_pending, goes_headed, goes_ended}
+use borrow.Author.Rules.{rules}
+use mathlib.Core.Bool.{not}
+use Rattle.reporting.proofs.take_in.Goals as goal
+
+pub overflow_add-come : goal.overflow_add-come
+overflow_add-come c = search (rules, come_fits c.args.report c.args.more.now c.requires.countable)
+
+pub returns-then-come-report : goal.returns-then-come-report
+returns-then-come-report c = goes_pending c.args.report c.append-kept.ensures c.requires.more_bound c.gathered-longer.ensures c.if-come-report.true
+
+pub stated_length-stated-requires : goal.stated_length-stated-requires
+stated_length-stated-requires c = head_there c.args.report c.args.more.now c.requires.countable c.append-kept.ensures
+
+pub returns-then-stated-come : goal.returns-then-stated-come
+returns-then-stated-come c = goes_headed c.args.report c.append-kept.ensures c.requires.more_bound c.if-come-report.false c.gathered-longer-then-stated-come.ensures c.stated_length-stated.ensures c.if-stated-come.true
+
+pub end_table-requires : goal.end_table-requires
+end_table-requires c = counted_fits c.args.report c.args.more.now c.requires.countable c.append-kept.ensures c.requires.more_bound c.if-come-report.false
+
+pub returns : goal.returns
+returns c = goes_ended c.args.report c.append-kept.ensures c.requires.more_bound c.if-come-report.false c.stated_length-stated.ensures c.if-stated-come.false c.end_table.ensures.report_value c.end_table.ensures.appended

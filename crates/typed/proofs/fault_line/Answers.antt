@@ -1,0 +1,9 @@
+-- `typed::fault_line` meets its contract.
+-- Assumes nothing.
+use Rattle.printing.proofs.AppendLaws.{then}
+use borrow.Author.Rules.{rules}
+use mathlib.Core.Bool.{not}
+use Rattle.typed.proofs.fault_line.Goals as goal
+
+pub returns : goal.returns
+returns c = then (then (then c.append_with_number-placed.ensures c.append-next.ensures) c.message-said.ensures) c.append.ensures

@@ -1,0 +1,11 @@
+use Prim.Native.Nat.{◌-◌}
+use mathlib.Core.Path.{refl}
+use native.Mathlib.Omega.{arith}
+use Rattle.encoding.specs.Bytes.{row_bytes}
+use Rattle.printing.proofs.AppendLaws.{long}
+use Rattle.printing.proofs.JoinedLaws.{Lines, lines_none, lines_more_law, lines_all}
+use Rattle.typed.specs.Bytes.{low_row}
+use Rattle.typed.proofs.sections.Given as goal
+
+abbrev pub invariant-loop-k : goal.invariant-loop-k
+invariant-loop-k l = Lines row_bytes (low_row l.numbers) l.initial.out l.at l.count l.k l.next l.out

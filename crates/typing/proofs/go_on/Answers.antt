@@ -1,0 +1,13 @@
+-- `typing::go_on` meets its contract: each turn takes one byte more.
+-- Assumes nothing.
+use Prim.Native.Nat.{◌-◌}
+use native.Mathlib.Omega.{arith}
+use Rattle.typing.proofs.MemoryLaws.{Going, going_none, going_bounded, going_more, going_all}
+use mathlib.Core.Bool.{not}
+use Rattle.typing.proofs.go_on.Goals as goal
+
+pub loop-i-init : goal.loop-i-init
+loop-i-init c = going_none _ _ _ _ _ c.requires.bounded c.requires.fields_len
+
+pub loop-i-preserved : goal.loop-i-preserved
+loop-i-preserved c = going_more c.loop-i.invariant c.loop-i-test.true c.take_byte-next.ensures.spot_value c.take_byte-next.ensures.places_after

@@ -1,0 +1,17 @@
+-- `writing::form_text` meets its contract: a refusal gets its line, and a table that is not refused its form.
+-- Assumes nothing.
+use mathlib.Core.Path.{sym, ◌∙◌}
+use Rattle.tables.proofs.OrderLaws.{read_clean}
+use Rattle.printing.proofs.AppendLaws.{as_text}
+use Rattle.writing.proofs.Forms.{form_is}
+use borrow.Author.Rules.{rules}
+use Rattle.writing.proofs.form_text.Goals as goal
+
+pub form-requires : goal.form-requires
+form-requires c = (read_clean 4 _ (sym c.check-checked.ensures ∙ c.in-Clean.is)).0
+
+pub returns-in-Refused : goal.returns-in-Refused
+returns-in-Refused c = as_text c.refused.ensures (form_is _ (sym c.check-checked.ensures ∙ c.in-Refused.is))
+
+pub returns-in-Clean : goal.returns-in-Clean
+returns-in-Clean c = as_text c.form.ensures (form_is _ (sym c.check-checked.ensures ∙ c.in-Clean.is))
