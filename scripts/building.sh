@@ -130,6 +130,8 @@ await() {
 
 # run_rt CRATE WORD: runs "rt WORD" in the crate's folder, and tells which crates it proves. What it says is kept for show_log.
 run_rt() {
+    # (what an earlier run said is gone before tell_begun looks)
+    : >"$top/target/building/log"
     # a group of its own: a signal for this command is to end all that rt has started
     (cd "$top/crates/$1" && exec setsid rt "$2") >"$top/target/building/log" 2>&1 </dev/null &
     building=$!
