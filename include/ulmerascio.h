@@ -45,7 +45,7 @@
  *     ulmerascio_check_claims           5,800    0.011     0.29           0.55          0.6
  *     ulmerascio_analyse_past_period    6,700    0.023     0.46     116,000    42,000,000
  *     ulmerascio_intake_begin               8    2 instructions
- *     ulmerascio_intake_take               40    0.0003    0.0011         0.0011        0.0012
+ *     ulmerascio_intake_take               64    0.0003    0.0011         0.0011        0.0012
  *     ulmerascio_intake_end             6,800    0.06      1.2        3,520       650,000
  *
  * ulmerascio_intake_take is that of a whole table in one piece; a single byte takes 48 instructions.
@@ -57,8 +57,9 @@
  * slowest found were counted too, on tables that were made to be slow; slower ones may exist. The
  * last column was not counted but reckoned, from how often each loop can run at most and how many
  * instructions it has. docs/PERFORMANCE.md tells how ("The greatest cost"), and has the same for up
- * to 32 tasks. So let nothing wait for an analysis, the engine or the end of an intake that gets
- * tables from strangers; a check of claims is always quick, and so is taking a piece.
+ * to 32 tasks. (All instructions are those of the library as an older kit compiled it.) So let
+ * nothing wait for an analysis, the engine or the end of an intake that gets tables from strangers;
+ * a check of claims is always quick, and so is taking a piece.
  *
  * THE PROCESSOR. The archive is for x86-64 and Linux: the System V calling convention, position
  * independent code, and instructions that every x86-64 processor has. With another processor there

@@ -32,6 +32,11 @@ static_libraries() {
     awk '{ sub(/#.*/, ""); sub(/:.*/, "") } $2 == "staticlib" { print $1 }' "$top/crates.txt"
 }
 
+# What the library for C is compiled for: every x86-64 processor, and not only those of rt's default, x86-64-v2. Nothing in a library looks
+# whether the processor will do, as a program does when it starts.
+# shellcheck disable=SC2034 # it is for those that make the library
+LIBRARY_CPU=x86-64
+
 # changed_since FILE CRATE..: is a source of these crates, or of one that they stand on, newer than the file?
 changed_since() {
     built=$1
@@ -128,12 +133,14 @@ await() {
     told=' '
 }
 
-# run_rt CRATE WORD: runs "rt WORD" in the crate's folder, and tells which crates it proves. What it says is kept for show_log.
+# run_rt CRATE WORD..: runs "rt WORD.." in the crate's folder, and tells which crates it proves. What it says is kept for show_log.
 run_rt() {
+    source=$top/crates/$1
+    shift
     # (what an earlier run said is gone before tell_begun looks)
     : >"$top/target/building/log"
     # a group of its own: a signal for this command is to end all that rt has started
-    (cd "$top/crates/$1" && exec setsid rt "$2") >"$top/target/building/log" 2>&1 </dev/null &
+    (cd "$source" && exec setsid rt "$@") >"$top/target/building/log" 2>&1 </dev/null &
     building=$!
     trap 'stop_building 129' HUP
     trap 'stop_building 130' INT
