@@ -1,4 +1,6 @@
 // The text of a list of claims and the bytes of a table in, one line of text out (SPECIFICATION 10.2; document 02, L7).
+#![tactic(auto)]
+
 ghost use Rattle.std.specs.Prelude.{min, ◌≡◌, length};
 ghost use Rattle.printing.specs.Appended.{Appended};
 ghost use Rattle.scanning.specs.Pieces.{Within, words_at, gone};

@@ -1,4 +1,6 @@
 // Checks claimed response times (SPECIFICATION 13.7; document 02, L7): each claim is looked at once, with one demand and no iteration.
+#![tactic(auto)]
+
 ghost use Rattle.std.specs.Prelude.{◌≡◌, ◌-◌, ◌≤◌, ◌<◌, length};
 ghost use Rattle.model.specs.Lists.{sum_of};
 ghost use Rattle.tables.specs.declared.Check.TheVariants.{Clean};

@@ -1,4 +1,6 @@
 // Plays a table tick by tick (SPECIFICATION 9; document 02, L1, L6 and L9): the answers and the verdict of the analysis, found another way.
+#![tactic(auto)]
+
 ghost use Rattle.std.specs.Prelude.{◌≡◌, ◌+◌, ◌-◌, ◌*◌, ◌≤◌, length};
 ghost use Rattle.model.specs.Lists.{word_of};
 ghost use Rattle.model.specs.Search.{any};

@@ -1,6 +1,8 @@
 // An intake (SPECIFICATION 13.13; document 02, L11): takes the bytes of a table as they arrive, cut anywhere, and when the sender says that
 // the table has ended gives the answer that the whole bytes would get. The store that keeps them, and its fill, which says how many it
 // keeps, are the caller's.
+#![tactic(auto)]
+
 ghost use Rattle.std.specs.Prelude.{◌≡◌};
 ghost use Rattle.intake.specs.Intake.{held, begun_fill, condition_for, fill_after, Takes, Answers, Ends};
 

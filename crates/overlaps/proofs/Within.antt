@@ -1,6 +1,6 @@
 -- Where no deadline is past its period, the second analysis says and leaves what the first does.
 -- Assumes nothing.
-use Prim.Native.Nat.{ℕ, ◌-◌, ◌≤◌, ◌<◌}
+use Prim.Native.Nat.{ℕ, ◌≤◌, ◌<◌}
 use native.Mathlib.Omega.{arith}
 use native.Mathlib.Decide.{dec_le}
 use mathlib.Core.Path.{◌≡◌, refl, sym, ◌∙◌, ap, subst}
@@ -37,8 +37,8 @@ use Rattle.response.specs.Analysis.{base_of, answer_of}
 use Rattle.response.specs.Outcome as first
 use Rattle.response.specs.Statements.{Accepted}
 use Rattle.response.proofs.Demands.{answers_kept, verdict_given, answers_filled, result_is_law}
-use Rattle.overlaps.specs.declared.Found.TheVariants.{Refused, Schedulable, Late}
-use Rattle.jobs.specs.Overlaps.{Studied, base_at, limit_at, window_at, response_at, studied_of, tried, longest_of, tried_of}
+use Rattle.overlaps.specs.declared.Found.TheVariants.{Schedulable}
+use Rattle.jobs.specs.Overlaps.{Studied, base_at, limit_at, window_at, response_at, studied_of, longest_of, tried_of}
 use Rattle.overlaps.specs.Outcome.{is_schedulable, said_by, said_at, result_of, past_check, lending, Left, PastOutcome}
 use Rattle.jobs.specs.Slices.{LongestBy}
 use Rattle.overlaps.specs.Statements.{Calm, as_found, SameLeft, SameWithinPeriod}

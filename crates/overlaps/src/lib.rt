@@ -1,4 +1,6 @@
 // The second analysis (SPECIFICATION 13.8; document 02, L8): deadlines may be past the period, so that jobs of one task may overlap.
+#![tactic(auto)]
+
 ghost use Rattle.std.specs.Prelude.{◌≡◌, true, ◌≤◌, ◌<◌, length};
 ghost use Rattle.model.specs.Choice.{pick};
 ghost use Rattle.tables.specs.declared.Check.TheVariants.{Clean};

@@ -1,5 +1,7 @@
 // The text for a table and what the second analysis says of it (SPECIFICATION 10 and 13.8; document 02, L8). It is built in a lent buffer,
 // so that a program writes it in one call.
+#![tactic(auto)]
+
 ghost use Rattle.printing.specs.Appended.{Appended};
 ghost use Rattle.past_text.specs.Answered.{past_text};
 ghost use Rattle.past_text.specs.Text.{found_line, judged_text, past_text_of};

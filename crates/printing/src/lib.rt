@@ -1,5 +1,7 @@
 // The text for a table and its verdict (SPECIFICATION 10; document 01); the tasks' lines in it are those of both analyses (document 02,
 // L8). It is built in a lent buffer, so that a program writes it in one call.
+#![tactic(auto)]
+
 ghost use Rattle.std.specs.Prelude.{◌≡◌, ◌<◌, get_or};
 ghost use Rattle.tables.specs.Layout.{task_count};
 ghost use Rattle.printing.specs.Appended.{Appended};

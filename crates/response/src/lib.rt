@@ -1,4 +1,6 @@
 // The public entry: the bytes of one table and two lent slices in, a verdict out, answers and rounds in the slices.
+#![tactic(auto)]
+
 ghost use Rattle.std.specs.Prelude.{◌≡◌, ℕ, ◌≤◌, ◌<◌, leb, length};
 ghost use Rattle.model.specs.Choice.{both};
 ghost use Rattle.model.specs.Lists.{filled};

@@ -1,4 +1,6 @@
 // Whole decimal numbers, read from a text: the mirror of `printing`. The text may come in pieces, so that no buffer has to hold all of it.
+#![tactic(auto)]
+
 ghost use Rattle.std.specs.Prelude.{◌+◌, ◌<◌, ◌≡◌, length};
 ghost use Rattle.scanning.specs.Reading.{is_digit, is_separator};
 ghost use Rattle.scanning.specs.Steps.{after_outside, after_inside, with_value, after_of, ended_by, one_if, Kept};

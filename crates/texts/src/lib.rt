@@ -1,4 +1,6 @@
 // A whole text: the bytes of the table that is typed in it, or the line of its fault; and the line of a byte of that table (SPECIFICATION 14).
+#![tactic(auto)]
+
 ghost use Rattle.std.specs.Prelude.{◌<◌, ◌≡◌, length};
 ghost use Rattle.model.specs.Choice.{on};
 ghost use Rattle.typed.specs.Answered.{end_in, says_faulty};

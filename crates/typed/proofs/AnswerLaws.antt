@@ -1,22 +1,20 @@
 -- What the code answers is what the text is read as, and it is not too long.
 -- Assumes nothing.
-use Prim.Native.Nat.{ℕ, suc, ◌+◌, ◌*◌, ◌^◌, ◌%◌, ◌≤◌, ◌<◌}
-use native.Mathlib.Nat.{mul-le-mul}
+use Prim.Native.Nat.{ℕ, ◌+◌, ◌*◌, ◌^◌, ◌%◌, ◌≤◌, ◌<◌}
 use native.Mathlib.Omega.{arith}
 use mathlib.Core.Path.{◌≡◌, refl, sym, ◌∙◌, ap}
-use mathlib.Core.Bool.{Bool, true, false}
+use mathlib.Core.Bool.{true}
 use mathlib.Core.Logic.{inl, inr}
 use mathlib.Core.List.{List, [], ◌∷◌, ◌++◌}
-use lib.ListN.{length, get_or, length-append}
-use Rattle.model.specs.Choice.{pick}
+use lib.ListN.{length, length-append}
 use Rattle.model.specs.Lists.{tabulate}
-use Rattle.model.specs.Tables.{Task, Row, Table, no_task, task_of}
+use Rattle.model.specs.Tables.{Task, Row, no_task, task_of}
 use Rattle.model.proofs.Lists.{tabulate_same, get_d_tabulate, length_tabulate}
 use Rattle.model.proofs.Tests.{bool?, clash}
 use Rattle.tables.specs.declared.layout.DelayFields.{DelayFields}
 use Rattle.tables.specs.declared.layout.DelayFields.TheVariants.{Jitter, Pair}
 use Rattle.tables.specs.Layout.{layout_for}
-use Rattle.encoding.specs.Bytes.{head_bytes, record_bytes, row_bytes, joined, encode}
+use Rattle.encoding.specs.Bytes.{record_bytes, row_bytes, joined, encode}
 use Rattle.encoding.specs.Statements.{no_row, row_of}
 use Rattle.printing.specs.Text.{bytes_of, with_number}
 use Rattle.printing.proofs.AppendLaws.{no_second_text}
@@ -27,16 +25,15 @@ use Rattle.typing.specs.declared.lines.Fault.{Fault}
 use Rattle.typing.specs.declared.lines.Fault.TheVariants.{UnknownWord, TooFew, TooMany, NotWhole, TooLarge, TaskBehind, VersionBehind, NoDelays, ManyTasks, ManySections}
 use Rattle.typing.specs.declared.lines.Line.{Line}
 use Rattle.typing.specs.declared.lines.Line.TheVariants.{Blank, Filling, Wrong}
-use Rattle.typing.specs.declared.State.{State}
 use Rattle.typing.specs.Reading.{Typed, Draft, version_for, outcome_at, reading_of, table_typed, bytes_typed}
-use Rattle.typing.specs.Kept.{number_at, task_kept, row_kept, Holds, TypedFits, kept_behind, draft_behind, Ready, TypedKept}
+use Rattle.typing.specs.Kept.{number_at, task_kept, row_kept, Holds, TypedFits, kept_behind, draft_behind}
 use Rattle.typing.proofs.KeptLaws.{typed_kept}
 use Rattle.typing.proofs.MemoryLaws.{sized_after}
 use Rattle.typed.specs.Bytes.{low_task_at, low_row_at, low_task, low_row, version_kept, Roomy, table_kept, bytes_kept}
 use Rattle.typed.specs.Messages.{message_of, fault_line}
 use Rattle.typed.specs.declared.Answer.{Answer}
 use Rattle.typed.specs.declared.Answer.TheVariants.{Bytes, Faulty}
-use Rattle.typed.specs.Answered.{text_for, is_faulty, kept_text, is_wrong, end_in, says_faulty, Answered, NoSecondAnswer, TextAnswered, AnswerFits}
+use Rattle.typed.specs.Answered.{text_for, is_faulty, kept_text, is_wrong, end_in, says_faulty, NoSecondAnswer, TextAnswered, AnswerFits}
 
 -- what fits into a byte is its own lowest byte
 low_is : {x y : ℕ} → x ≡ y → y ≤ 255 → x % 256 ≡ y

@@ -1,7 +1,7 @@
 -- Which field stands at a byte of the table that is typed, and in which line of its text (SPECIFICATION 14.6). The proof is in
 -- proofs/PlaceLaws.antt.
 -- Assumes nothing.
-use Rattle.std.specs.Prelude.{ℕ, ◌+◌, ◌-◌, ◌*◌, ◌/◌, ◌%◌, ◌<◌, ◌≡◌, List, ◌++◌, eqb, ltb, length, get_or}
+use Rattle.std.specs.Prelude.{ℕ, ◌-◌, ◌*◌, ◌/◌, ◌%◌, ◌<◌, ◌≡◌, List, ◌++◌, eqb, ltb, length, get_or}
 use Rattle.model.specs.Choice.{pick, on}
 use Rattle.tables.specs.declared.layout.DelayFields.{DelayFields}
 use Rattle.tables.specs.declared.layout.DelayFields.TheVariants.{Jitter, Pair}

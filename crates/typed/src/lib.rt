@@ -1,4 +1,6 @@
 // What is answered to a text: the bytes of the table that is typed, or one line that says what is wrong and where (SPECIFICATION 14).
+#![tactic(auto)]
+
 ghost use Rattle.std.specs.Prelude.{◌+◌, ◌*◌, ◌%◌, ◌≤◌, ◌<◌, ◌≡◌, [], ◌∷◌, ◌++◌, length};
 ghost use Rattle.model.specs.Lists.{tabulate};
 ghost use Rattle.tables.specs.Layout.{layout_for};

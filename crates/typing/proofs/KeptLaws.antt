@@ -2,20 +2,17 @@
 -- Assumes nothing.
 use Prim.Native.Nat.{ℕ, zero, suc, ◌+◌, ◌*◌, ◌≤◌, ◌<◌}
 use native.Mathlib.Omega.{arith}
-use native.Mathlib.Numerals.{add-one}
 use mathlib.Core.Path.{◌≡◌, refl, sym, ◌∙◌, ap}
 use mathlib.Core.Bool.{Bool, true, false}
 use mathlib.Core.Logic.{inl, inr}
 use mathlib.Core.List.{List, [], ◌∷◌, ◌++◌}
-use lib.Dec.{eqb}
 use lib.ListN.{length, take, get_or, set, length-append, length-set}
 use lib.Seq.{sets, get_or-set_same, get_or-set_other, length-sets, take_all}
-use Rattle.model.specs.Choice.{pick}
 use Rattle.model.specs.Lists.{tabulate}
-use Rattle.model.specs.Tables.{Task, Row, no_task, task_of}
+use Rattle.model.specs.Tables.{Task, Row, no_task}
 use Rattle.model.proofs.Lists.{tabulate_more, tabulate_none, tabulate_same}
 use Rattle.model.proofs.Tests.{bool?, clash}
-use Rattle.encoding.specs.Statements.{no_row, row_of}
+use Rattle.encoding.specs.Statements.{no_row}
 use Rattle.words.specs.Words.{Event, word, line_end}
 use Rattle.typing.specs.declared.lines.Kind.{Kind}
 use Rattle.typing.specs.declared.lines.Kind.TheVariants.{VersionLine, TaskLine, JitterLine, DelaysLine, SectionLine}
@@ -24,9 +21,9 @@ use Rattle.typing.specs.declared.lines.Line.TheVariants.{Blank, Filling, Wrong}
 use Rattle.typing.specs.declared.lines.Counts.{Counts}
 use Rattle.typing.specs.declared.State.{State}
 use Rattle.typing.specs.Lines.{no_fields, fields_after, is_whole, whole_line, ended_line}
-use Rattle.typing.specs.Reading.{state_begun, state_heard, task_added, counts_with, counts_at_end, state_ended, Typed, nothing_typed, field, typed_task, typed_row, with_task, typed_with, typed_at_end, Draft, draft_begun, draft_by, draft_after}
-use Rattle.typing.specs.Steps.{slot_for, size_for, place_slot, numbers_with, places_with, numbers_at_end, places_at_end, Memory, memory, memory_by, memory_after}
-use Rattle.typing.specs.Kept.{number_at, task_kept, row_kept, task_line_kept, row_line_kept, Holds, TaskFits, RowFits, TypedFits, kept_behind, draft_behind, Ready, TypedKept}
+use Rattle.typing.specs.Reading.{state_begun, state_heard, task_added, counts_with, counts_at_end, state_ended, Typed, field, typed_task, typed_row, with_task, typed_with, typed_at_end, Draft, draft_begun, draft_by, draft_after}
+use Rattle.typing.specs.Steps.{numbers_with, places_with, numbers_at_end, places_at_end, Memory, memory, memory_by, memory_after}
+use Rattle.typing.specs.Kept.{number_at, task_kept, row_kept, task_line_kept, row_line_kept, Holds, TaskFits, RowFits, TypedFits, Ready, TypedKept}
 use Rattle.typing.proofs.LineLaws.{fields_long}
 use Rattle.typing.proofs.RoomLaws.{most_tasks, most_sections, Room, room_heard, FieldsFit, fit_heard, no_fields_fit}
 

@@ -8,9 +8,8 @@ use mathlib.Core.Bool.{Bool, true, false}
 use mathlib.Core.Logic.{inl, inr}
 use mathlib.Core.List.{List, [], ◌∷◌, ◌++◌, append-nil}
 use lib.Dec.{eqb}
-use lib.ListN.{length, take, get_or, set, length-set, length-take}
+use lib.ListN.{length, take, get_or, length-set}
 use lib.Seq.{sets, take-suc, take_all, length-sets}
-use borrow.Author.Tests.{eq-eqb}
 use Rattle.model.specs.Choice.{pick}
 use Rattle.model.proofs.Tests.{bool?}
 use Rattle.words.specs.declared.Spot.{Spot}
@@ -25,7 +24,7 @@ use Rattle.typing.specs.declared.lines.Counts.{Counts}
 use Rattle.typing.specs.declared.State.{State}
 use Rattle.typing.specs.declared.Reader.{Reader}
 use Rattle.typing.specs.Lines.{fields_after, is_whole, whole_line, ended_line}
-use Rattle.typing.specs.Reading.{state_begun, state_heard, counts_with, counts_at_end, number_at_end, state_ended, field}
+use Rattle.typing.specs.Reading.{state_begun, state_heard, counts_with, state_ended, field}
 use Rattle.typing.specs.Steps.{start, Bounded, slot_for, size_for, place_slot, numbers_at_end, places_at_end, Memory, memory, memory_by, memory_after}
 use Rattle.typing.proofs.LineLaws.{fields_long}
 

@@ -1,15 +1,15 @@
 -- A line that is begun has room for its numbers, and its numbers fit into their fields.
 -- Assumes nothing.
-use Prim.Native.Nat.{ℕ, zero, suc, ◌+◌, ◌≤◌, ◌<◌}
+use Prim.Native.Nat.{ℕ, zero, suc, ◌+◌, ◌≤◌}
 use native.Mathlib.Omega.{arith}
-use mathlib.Core.Path.{◌≡◌, refl, sym, ◌∙◌, ap}
-use mathlib.Core.Bool.{Bool, true, false}
+use mathlib.Core.Path.{◌≡◌, refl, ap}
+use mathlib.Core.Bool.{Bool, true}
 use mathlib.Core.Logic.{inl, inr}
 use mathlib.Core.List.{List, [], ◌∷◌}
 use lib.Dec.{eqb, leb, ltb}
-use lib.ListN.{length, get_or, set}
+use lib.ListN.{set}
 use borrow.Author.Tests.{leb-true}
-use Rattle.model.specs.Choice.{pick, either}
+use Rattle.model.specs.Choice.{either}
 use Rattle.model.proofs.Tests.{bool?, leb?, both_true}
 use Rattle.words.specs.Words.{spelling_of, not_whole}
 use Rattle.printing.specs.Text.{bytes_of}
@@ -18,7 +18,7 @@ use Rattle.typing.specs.declared.lines.Kind.TheVariants.{VersionLine, TaskLine, 
 use Rattle.typing.specs.declared.lines.Line.{Line}
 use Rattle.typing.specs.declared.lines.Line.TheVariants.{Blank, Filling, Wrong}
 use Rattle.typing.specs.declared.lines.Counts.{Counts}
-use Rattle.typing.specs.Lines.{needed_for, byte_below, limit_for, field_for, task_begun, section_begun, version_begun, begun_by, number_line, delays_behind, behind_of, went_on, line_after, is_taken, no_fields, fields_after}
+use Rattle.typing.specs.Lines.{needed_for, limit_for, field_for, task_begun, section_begun, version_begun, begun_by, number_line, delays_behind, behind_of, went_on, line_after, is_taken, no_fields, fields_after}
 use Rattle.typing.specs.Reading.{field}
 use Rattle.typing.proofs.LineLaws.{limit_small}
 

@@ -4,7 +4,7 @@ use Rattle.std.specs.Prelude.{ℕ, ◌+◌, ◌*◌, ◌≤◌, ◌<◌, ◌≡�
 use Rattle.model.specs.Lists.{tabulate}
 use Rattle.model.specs.Tables.{Task, Row, task_of}
 use Rattle.encoding.specs.Statements.{row_of}
-use Rattle.words.specs.Words.{Event, events_of}
+use Rattle.words.specs.Words.{Event}
 use Rattle.typing.specs.declared.lines.Counts.{Counts}
 use Rattle.typing.specs.Lines.{no_fields}
 use Rattle.typing.specs.Reading.{state_begun, Typed, Draft, draft_begun, draft_after}

@@ -1,12 +1,11 @@
 -- What one line of a text is, word by word (SPECIFICATION 14.2).
 -- Assumes nothing.
-use Rattle.std.specs.Prelude.{ℕ, suc, ◌+◌, Bool, true, false, List, [], ◌∷◌, eqb, leb, ltb, set}
+use Rattle.std.specs.Prelude.{ℕ, ◌+◌, Bool, List, [], ◌∷◌, eqb, leb, ltb, set}
 use Rattle.model.specs.Choice.{pick, both, either}
 use Rattle.printing.specs.Text.{bytes_of}
 use Rattle.words.specs.Words.{spelling_of, not_whole}
 use Rattle.typing.specs.declared.lines.Kind.{Kind}
 use Rattle.typing.specs.declared.lines.Kind.TheVariants.{VersionLine, TaskLine, JitterLine, DelaysLine, SectionLine}
-use Rattle.typing.specs.declared.lines.Fault.{Fault}
 use Rattle.typing.specs.declared.lines.Fault.TheVariants.{UnknownWord, TooFew, TooMany, NotWhole, TooLarge, TaskBehind, VersionBehind, NoDelays, ManyTasks, ManySections}
 use Rattle.typing.specs.declared.lines.Line.{Line}
 use Rattle.typing.specs.declared.lines.Line.TheVariants.{Blank, Filling, Wrong}

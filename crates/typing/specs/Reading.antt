@@ -1,6 +1,6 @@
 -- What a text is read as: a table, or the first line that can't be read and why (SPECIFICATION 14).
 -- Assumes nothing.
-use Rattle.std.specs.Prelude.{ℕ, ◌+◌, Bool, true, false, List, [], ◌∷◌, ◌++◌, eqb, ltb, length, get_or}
+use Rattle.std.specs.Prelude.{ℕ, ◌+◌, Bool, true, false, List, [], ◌∷◌, ◌++◌, eqb, ltb, get_or}
 use Rattle.model.specs.Choice.{pick}
 use Rattle.model.specs.Tables.{Task, Row, Table}
 use Rattle.encoding.specs.Bytes.{encode}

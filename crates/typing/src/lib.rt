@@ -1,5 +1,7 @@
 // A task table that people type: its text, read word by word (SPECIFICATION 14). The numbers go to lent slices as their lines end, so that a
 // text and its lines may be of any length.
+#![tactic(auto)]
+
 ghost use Rattle.std.specs.Prelude.{◌+◌, ◌≤◌, ◌<◌, ◌≡◌, length, take, get_or, set};
 ghost use Rattle.std.proofs.lemmas.List.Edits.{sets};
 ghost use Rattle.model.specs.Choice.{pick};

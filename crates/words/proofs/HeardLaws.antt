@@ -1,6 +1,6 @@
 -- What is heard byte by byte are the words and line ends of the text.
 -- Assumes nothing.
-use Prim.Native.Nat.{ℕ, ◌+◌, ◌-◌, ◌*◌, ◌≤◌, ◌<◌, min}
+use Prim.Native.Nat.{ℕ, ◌+◌, ◌-◌, ◌*◌, ◌<◌, min}
 use native.Mathlib.Omega.{arith}
 use mathlib.Core.Path.{◌≡◌, refl, sym, ◌∙◌, ap}
 use mathlib.Core.Bool.{Bool, true, false}
@@ -13,7 +13,7 @@ use Rattle.model.proofs.Tests.{bool?, eqb?, ltb?}
 use Rattle.scanning.specs.Reading.{is_digit}
 use Rattle.scanning.specs.Faults.{digits_only, with_digits}
 use Rattle.words.specs.declared.Spot.{Spot}
-use Rattle.words.specs.Words.{is_blank, is_end, begins_with_feed, unreturned, spelled_after, spelled_from, spelling_of, too_large, amount_of, amount_after, Event, word, line_end, ended, in_word, in_comment, events_of}
+use Rattle.words.specs.Words.{is_blank, is_end, begins_with_feed, unreturned, spelled_after, spelled_from, spelling_of, too_large, amount_of, amount_after, Event, line_end, ended, in_word, in_comment, events_of}
 use Rattle.words.specs.Steps.{begun, grown_by, settled_by, ends_word, went_by, word_by, heard_by, spot_by, heard_in, spot_after}
 use Rattle.words.specs.Heard.{WordsHeard}
 

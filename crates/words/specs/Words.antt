@@ -2,7 +2,7 @@
 -- Assumes nothing.
 use Rattle.std.specs.Prelude.{ℕ, ◌+◌, ◌-◌, ◌*◌, min, Bool, false, List, [], ◌∷◌, ◌++◌, eqb, ltb}
 use Rattle.model.specs.Choice.{pick, both, either}
-use Rattle.scanning.specs.Reading.{is_digit, largest}
+use Rattle.scanning.specs.Reading.{is_digit}
 use Rattle.scanning.specs.Faults.{digits_only, with_digits}
 
 -- "words are separated by blanks or tabs"

@@ -1,5 +1,7 @@
 // A text as lines of words, one byte after the other (SPECIFICATION 14.1). Of a word no more is kept than what tells it from others: how it
 // is spelled, and its amount if it is a whole number. So a text and its lines may be of any length.
+#![tactic(auto)]
+
 ghost use Rattle.std.specs.Prelude.{◌≡◌, min};
 ghost use Rattle.words.specs.Words.{is_blank, is_end, spelled_after, amount_after};
 ghost use Rattle.words.specs.Steps.{begun, comment_begun, returned_after, grown_by, settled_by, ends_word, went_by};

@@ -1,5 +1,7 @@
 // The text form of a table (SPECIFICATION 14): what its bytes say, in words and decimal numbers, a line for each task and each section. It
 // is built in a lent buffer, so that a program writes it in one call.
+#![tactic(auto)]
+
 ghost use Rattle.std.specs.Prelude.{◌≡◌};
 ghost use Rattle.tables.specs.declared.Check.TheVariants.{Clean};
 ghost use Rattle.tables.specs.Layout.{version_of, tasks_of, rows_of, table_of};

@@ -1,11 +1,7 @@
 -- `checking::check_list` meets its contract: the words that are kept stand for the whole list.
 -- Assumes nothing.
-use native.Mathlib.Omega.{arith}
-use Rattle.printing.proofs.AppendLaws.{as_text, part_length}
+use Rattle.printing.proofs.AppendLaws.{as_text}
 use Rattle.checking.proofs.ListLaws.{list_checked, list_unreadable}
-use borrow.Author.Rules.{rules}
-use borrow.Author.Rules.{rules}
-use mathlib.Core.Bool.{not}
 use Rattle.checking.proofs.check_list.Goals as goal
 
 pub returns-in-Numbers : goal.returns-in-Numbers

@@ -1,10 +1,8 @@
 -- `claims::check_all` meets its contract: each turn checks one claim, and the first that fails ends it.
 -- Assumes nothing.
-use Prim.Native.Nat.{◌-◌}
 use native.Mathlib.Omega.{arith}
-use Rattle.answering.specs.Slices.{decoded}
-use Rattle.answering.proofs.AnsweringLaws.{reached_more, reached_fits, base_fits, loads_fit_law, own_first, others_once, own_cost}
-use Rattle.claims.proofs.ClaimLaws.{Checking, checking_none, checking_all, turn_fails, turn_passes}
+use Rattle.answering.proofs.AnsweringLaws.{reached_more, reached_fits, loads_fit_law, own_first, others_once, own_cost}
+use Rattle.claims.proofs.ClaimLaws.{checking_none, turn_fails, turn_passes}
 use mathlib.Core.Path.{ap}
 use mathlib.Core.Bool.{not}
 use Rattle.claims.proofs.check_all.Goals as goal

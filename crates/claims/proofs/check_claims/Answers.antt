@@ -4,16 +4,15 @@ use mathlib.Core.Path.{sym, ◌∙◌}
 use Rattle.tables.proofs.OrderLaws.{head_decides}
 use Rattle.reading.proofs.HeldLaws.{small_fits, large_fits}
 use Rattle.claims.proofs.ColumnLaws.{read_refused}
-use borrow.Author.Rules.{rules}
 use Rattle.claims.proofs.check_claims.Goals as goal
 
 pub returns-in-Refused : goal.returns-in-Refused
 returns-in-Refused c = read_refused _ _ _ (head_decides _ _ _ (sym c.in-Refused.is ∙ c.check-head.ensures))
 
 pub check_large-requires : goal.check_large-requires
-check_large-requires c =    let clean = sym c.check-head.ensures ∙ c.in_default.is in
+check_large-requires c = let clean = sym c.check-head.ensures ∙ c.in_default.is in
     (clean, large_fits _ clean)
 
 pub check_small-requires : goal.check_small-requires
-check_small-requires c =    let clean = sym c.check-head.ensures ∙ c.in_default.is in
+check_small-requires c = let clean = sym c.check-head.ensures ∙ c.in_default.is in
     (clean, small_fits _ clean c.is_large.ensures c.if-is_large.false)

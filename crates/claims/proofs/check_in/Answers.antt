@@ -6,7 +6,6 @@ use Rattle.tables.proofs.CheckLaws.{head_right}
 use Rattle.reading.proofs.StageLaws.{lent_again}
 use Rattle.reading.proofs.HeldLaws.{table_held}
 use Rattle.claims.proofs.ColumnLaws.{read_refused, wrong_count}
-use borrow.Author.Rules.{rules}
 use Rattle.claims.proofs.check_in.Goals as goal
 
 pub returns-in-Refused : goal.returns-in-Refused

@@ -2,7 +2,6 @@
 -- Assumes nothing.
 use mathlib.Core.Path.{refl}
 use Rattle.response.proofs.DecodedLaws.{zeros_lent, columns_lent}
-use borrow.Author.Rules.{rules}
 use Rattle.claims.proofs.check_large.Goals as goal
 
 pub check_in-requires : goal.check_in-requires

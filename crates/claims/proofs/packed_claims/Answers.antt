@@ -1,11 +1,6 @@
 -- `claims::ulmerascio_check_claims` meets its contract: it packs the answer of `check_claims`, whose place is small.
 -- Assumes nothing.
-use mathlib.Core.Path.{◌∙◌, ap}
-use borrow.Author.Rules.{rules}
-use Rattle.claims.specs.Numbers.{packed_claimed}
 use Rattle.claims.proofs.Claims.{claimed_place_law}
-use mathlib.Core.Path.{sym}
-use mathlib.Core.Bool.{not}
 use Rattle.claims.proofs.packed_claims.Goals as goal
 
 pub pack-requires : goal.pack-requires

@@ -2,7 +2,6 @@
 -- Assumes nothing.
 use native.Mathlib.Omega.{arith}
 use Rattle.claims.proofs.ClaimLaws.{too_small, too_late, as_asked}
-use borrow.Author.Rules.{rules}
 use Rattle.claims.proofs.passes.Goals as goal
 
 pub returns-then-claim-latest : goal.returns-then-claim-latest

@@ -1,12 +1,9 @@
 -- `engine::any_tie` meets its contract: the loop stops at the first task that has the priority of the one before it.
 -- Assumes nothing.
-use Prim.Native.Nat.{◌-◌}
 use native.Mathlib.Omega.{arith}
 use mathlib.Core.Path.{sym, ap}
 use Rattle.tables.specs.declared.layout.Layout.{Layout}
-use Rattle.engine.proofs.PlayedLaws.{Looking, looking_alone, looking_first, looking_none, next_inside, next_near, looking_found, looking_more}
-use borrow.Author.Rules.{rules}
-use mathlib.Core.Path.{◌∙◌}
+use Rattle.engine.proofs.PlayedLaws.{looking_alone, looking_first, next_inside, looking_found, looking_more}
 use Rattle.engine.proofs.any_tie.Goals as goal
 
 pub returns-then-n-lt2 : goal.returns-then-n-lt2

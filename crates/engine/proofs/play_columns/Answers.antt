@@ -4,7 +4,6 @@ use native.Mathlib.Omega.{arith}
 use mathlib.Core.Path.{sym, ◌∙◌}
 use Rattle.ticking.proofs.PlayLaws.{start_held}
 use Rattle.engine.proofs.PlayedLaws.{right, tasks_held, deadlines_held_law, limit_high, no_room, rows_refused, delay_refused, tie_refused, all_played}
-use borrow.Author.Rules.{rules}
 use Rattle.engine.proofs.play_columns.Goals as goal
 
 pub bounds-table-3 : goal.bounds-table-3
@@ -29,7 +28,7 @@ pub returns-then-any_tie : goal.returns-then-any_tie
 returns-then-any_tie c = tie_refused _ _ _ _ _ c.requires.numbers_held _ c.count-n.ensures.0 _ c.if-answers-n.false (sym c.any_tie.ensures ∙ c.if-any_tie.true)
 
 pub play_all-requires : goal.play_all-requires
-play_all-requires c =    let held = tasks_held _ _ _ _ _ c.requires.numbers_held _ c.count-n.ensures.0 in record { tasks_held = held; deadlines_held = deadlines_held_law _ _ _ _ _ c.requires.numbers_held _ c.count-n.ensures.0; start_held = start_held _ _ _ (omega (arith, held.few)) (omega (arith, c.requires.zeros.0.long, c.count-n.ensures.0)) (omega (arith, c.requires.zeros.1.long, c.count-n.ensures.0)) (λ p h. c.requires.zeros.0.each p (omega (arith, c.count-n.ensures.0))) (λ p h. c.requires.zeros.1.each p (omega (arith, c.count-n.ensures.0))); limit_bound = (limit_high _ _ _ _ _ c.requires.numbers_held _ c.count-n.ensures.0 _ c.largest-limit.ensures, c.if-answers-n.false) }
+play_all-requires c = let held = tasks_held _ _ _ _ _ c.requires.numbers_held _ c.count-n.ensures.0 in record { tasks_held = held; deadlines_held = deadlines_held_law _ _ _ _ _ c.requires.numbers_held _ c.count-n.ensures.0; start_held = start_held _ _ _ (omega (arith, held.few)) (omega (arith, c.requires.zeros.0.long, c.count-n.ensures.0)) (omega (arith, c.requires.zeros.1.long, c.count-n.ensures.0)) (λ p h. c.requires.zeros.0.each p (omega (arith, c.count-n.ensures.0))) (λ p h. c.requires.zeros.1.each p (omega (arith, c.count-n.ensures.0))); limit_bound = (limit_high _ _ _ _ _ c.requires.numbers_held _ c.count-n.ensures.0 _ c.largest-limit.ensures, c.if-answers-n.false) }
 
 pub returns : goal.returns
 returns c = all_played _ _ _ _ _ c.requires.numbers_held _ c.count-n.ensures.0 _ c.if-answers-n.false c.if-table-ne0.false (sym c.any_delay.ensures ∙ c.if-any_delay.false) (sym c.any_tie.ensures ∙ c.if-any_tie.false) _ _ _ c.largest-limit.ensures c.play_all.ensures.answers_after c.result.ensures

@@ -4,7 +4,6 @@ use native.Mathlib.Omega.{arith}
 use mathlib.Core.Path.{sym, ◌∙◌}
 use Rattle.reading.proofs.HeldLaws.{table_held, held_cut}
 use Rattle.engine.proofs.PlayedLaws.{read_refused, numbers_held}
-use borrow.Author.Rules.{rules}
 use Rattle.engine.proofs.play_in.Goals as goal
 
 pub returns-in-Refused : goal.returns-in-Refused

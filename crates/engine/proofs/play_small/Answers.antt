@@ -2,7 +2,6 @@
 -- Assumes nothing.
 use mathlib.Core.Path.{refl}
 use Rattle.response.proofs.DecodedLaws.{zeros_lent, columns_lent}
-use borrow.Author.Rules.{rules}
 use Rattle.engine.proofs.play_small.Goals as goal
 
 pub play_in-requires : goal.play_in-requires

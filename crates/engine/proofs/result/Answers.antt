@@ -1,12 +1,8 @@
 -- `engine::result` meets its contract: the loop stops at the first answer that is 0.
 -- Assumes nothing.
-use Prim.Native.Nat.{◌-◌, ◌≤◌}
 use native.Mathlib.Omega.{arith}
-use mathlib.Core.Path.{◌≡◌}
 use Rattle.model.specs.Lists.{word_of}
-use Rattle.answering.specs.declared.Verdict.TheVariants.{Schedulable}
-use Rattle.answering.specs.Results.{result_of}
-use Rattle.engine.proofs.PlayedLaws.{result_none, result_on, result_late, result_all}
+use Rattle.engine.proofs.PlayedLaws.{result_none, result_on, result_late}
 use Rattle.engine.proofs.result.Goals as goal
 
 pub loop-i-init : goal.loop-i-init

@@ -1,10 +1,8 @@
-use Prim.Native.Nat.{◌-◌, ◌≤◌}
-use native.Mathlib.Omega.{arith}
+use Prim.Native.Nat.{◌≤◌}
 use mathlib.Core.Path.{◌≡◌}
 use Rattle.model.specs.Lists.{word_of}
 use Rattle.answering.specs.declared.Verdict.TheVariants.{Schedulable}
 use Rattle.answering.specs.Results.{result_of}
-use Rattle.engine.proofs.PlayedLaws.{result_none, result_on, result_late, result_all}
 use Rattle.engine.proofs.result.Given as goal
 
 abbrev pub invariant-loop-i : goal.invariant-loop-i

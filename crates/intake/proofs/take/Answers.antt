@@ -2,9 +2,7 @@
 -- Assumes nothing.
 use native.Mathlib.Omega.{arith}
 use Rattle.printing.proofs.AppendLaws.{part_length}
-use Rattle.intake.proofs.StateLaws.{store_long, takes, takes_short, takes_wrong}
-use borrow.Author.Rules.{rules}
-use mathlib.Core.Bool.{not}
+use Rattle.intake.proofs.StateLaws.{store_long, takes}
 use Rattle.intake.proofs.take.Goals as goal
 
 pub slice_bounds-append-end-in-Ready : goal.slice_bounds-append-end-in-Ready

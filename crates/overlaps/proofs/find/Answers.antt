@@ -4,17 +4,16 @@ use native.Mathlib.Omega.{arith}
 use Rattle.reading.proofs.HeldLaws.{held_cut, held_right}
 use Rattle.response.proofs.DecodedLaws.{room_for, ranks_held_law, periods_high, decoded_fits}
 use Rattle.overlaps.proofs.ColumnLaws.{table_found}
-use borrow.Author.Rules.{rules}
 use Rattle.overlaps.proofs.find.Goals as goal
 
 pub bounds-table-3 : goal.bounds-table-3
 bounds-table-3 c = omega (arith, (held_right c.requires.table_held.0).head.long_enough)
 
 pub find_all-requires : goal.find_all-requires
-find_all-requires c =    let held = held_cut _ _ _ c.requires.table_held.0 in
+find_all-requires c = let held = held_cut _ _ _ c.requires.table_held.0 in
     let ranks = ranks_held_law c.requires.lent c.requires.table_held.0 in record { decoded_fits = decoded_fits _ _ _ held _ ranks _ c.count-n.ensures.0 _ _ (omega (arith, c.requires.zeros.0.long, c.count-n.ensures.0)) c.find_blocking.ensures; periods_high = (periods_high _ _ _ held _ ranks _ c.count-n.ensures.0, omega (arith, c.requires.zeros.1, c.count-n.ensures.0)); n_in_bounds = room_for c.count-n.ensures.0 c.requires.table_in_bounds }
 
 pub returns : goal.returns
-returns c =    let held = held_cut _ _ _ c.requires.table_held.0 in
+returns c = let held = held_cut _ _ _ c.requires.table_held.0 in
     let ranks = ranks_held_law c.requires.lent c.requires.table_held.0 in
     table_found _ _ _ held _ c.count-n.ensures.0 _ ranks _ _ (omega (arith, c.requires.zeros.0.long, c.count-n.ensures.0)) c.find_blocking.ensures held.clean c.requires.table_held.1 _ _ c.requires.table_in_bounds _ _ _ c.find_all.ensures

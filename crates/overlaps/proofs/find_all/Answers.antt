@@ -1,18 +1,11 @@
 -- `overlaps::find_all` meets its contract: each turn finds the words of one task, by the laws of `FindingLaws` and, for its group, of
 -- `AnsweringLaws`.
 -- Assumes nothing.
-use Prim.Native.Nat.{◌-◌}
 use native.Mathlib.Omega.{arith}
-use mathlib.Core.Path.{◌≡◌, refl, ◌∙◌}
-use lib.ListN.{length}
-use Rattle.model.proofs.Filling.{Filling, filling_none, filling_more, filling_at}
-use Rattle.solver.proofs.RoundLaws.{markable}
-use Rattle.answering.specs.Slices.{decoded}
-use Rattle.answering.proofs.AnsweringLaws.{Walking, walking_none, walking_more, walked_all, reached_more, reached_fits, own_cost, count_high}
-use Rattle.overlaps.specs.Outcome.{result_of}
-use Rattle.overlaps.specs.Columns.{longest_in, tried_in}
-use Rattle.overlaps.proofs.FindingLaws.{result_none, result_more, result_all, beginnable, word_is_law, tried_is_law}
-use mathlib.Core.Path.{sym}
+use mathlib.Core.Path.{refl, ◌∙◌}
+use Rattle.model.proofs.Filling.{filling_none, filling_more}
+use Rattle.answering.proofs.AnsweringLaws.{walking_none, walking_more, reached_more, reached_fits, own_cost, count_high}
+use Rattle.overlaps.proofs.FindingLaws.{result_none, result_more, beginnable, word_is_law, tried_is_law}
 use Rattle.overlaps.proofs.find_all.Goals as goal
 
 pub loop-i-init : goal.loop-i-init
@@ -34,7 +27,7 @@ longest-words-requires c = (
 )
 
 pub loop-i-preserved : goal.loop-i-preserved
-loop-i-preserved c =    let word = word_is_law _ _ _ c.loop-i.invariant.0.fits c.loop-i-test.true _ _ _ _ _ _ c.group_of-group.ensures _ _ c.longest-words.ensures in
+loop-i-preserved c = let word = word_is_law _ _ _ c.loop-i.invariant.0.fits c.loop-i-test.true _ _ _ _ _ _ c.group_of-group.ensures _ _ c.longest-words.ensures in
     let spent = tried_is_law _ _ _ c.loop-i.invariant.0.fits c.loop-i-test.true _ _ _ _ _ _ c.group_of-group.ensures _ _ c.longest-words.ensures in (
       walking_more _ _ _ c.loop-i.invariant.0.fits c.loop-i-test.true _ _ _ _ _ _ c.group_of-group.ensures _ c.loop-i.invariant.0,
       result_more _ _ _ _ _ _ c.loop-i.invariant.1 word c.with_word-found.ensures,

@@ -1,14 +1,10 @@
-use Prim.Native.Nat.{◌-◌}
-use native.Mathlib.Omega.{arith}
-use mathlib.Core.Path.{◌≡◌, refl, ◌∙◌}
+use mathlib.Core.Path.{◌≡◌}
 use lib.ListN.{length}
-use Rattle.model.proofs.Filling.{Filling, filling_none, filling_more, filling_at}
-use Rattle.solver.proofs.RoundLaws.{markable}
+use Rattle.model.proofs.Filling.{Filling}
 use Rattle.answering.specs.Slices.{decoded}
-use Rattle.answering.proofs.AnsweringLaws.{Walking, walking_none, walking_more, walked_all, reached_more, reached_fits, own_cost, count_high}
+use Rattle.answering.proofs.AnsweringLaws.{Walking}
 use Rattle.overlaps.specs.Outcome.{result_of}
 use Rattle.overlaps.specs.Columns.{longest_in, tried_in}
-use Rattle.overlaps.proofs.FindingLaws.{result_none, result_more, result_all, beginnable, word_is_law, tried_is_law}
 use Rattle.overlaps.proofs.find_all.Given as goal
 
 abbrev pub invariant-loop-i : goal.invariant-loop-i

@@ -1,10 +1,6 @@
 -- `overlaps::packed_past_period` meets its contract: it packs what `analyse_past_period` says, whose place is small.
 -- Assumes nothing.
-use mathlib.Core.Path.{◌∙◌, ap}
-use borrow.Author.Rules.{rules}
-use Rattle.overlaps.specs.Numbers.{packed}
 use Rattle.overlaps.proofs.Past.{found_place_law}
-use mathlib.Core.Path.{sym}
 use Rattle.overlaps.proofs.packed_past_period.Goals as goal
 
 pub pack-requires : goal.pack-requires

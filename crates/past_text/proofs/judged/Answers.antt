@@ -1,8 +1,6 @@
 -- `past_text::judged` meets its contract: the tasks' lines, then that of what was found.
 -- Assumes nothing.
 use Rattle.printing.proofs.AppendLaws.{then}
-use borrow.Author.Rules.{rules}
-use mathlib.Core.Bool.{not}
 use Rattle.past_text.proofs.judged.Goals as goal
 
 pub returns : goal.returns

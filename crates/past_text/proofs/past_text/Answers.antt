@@ -2,8 +2,6 @@
 -- Assumes nothing.
 use Rattle.printing.proofs.AppendLaws.{as_text}
 use Rattle.past_text.proofs.AnsweredLaws.{text_of_outcome}
-use borrow.Author.Rules.{rules}
-use mathlib.Core.Bool.{not}
 use Rattle.past_text.proofs.past_text.Goals as goal
 
 pub returns : goal.returns

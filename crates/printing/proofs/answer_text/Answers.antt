@@ -2,7 +2,6 @@
 -- Assumes nothing.
 use Rattle.printing.proofs.AppendLaws.{as_text}
 use Rattle.printing.proofs.AnsweredLaws.{text_of_outcome}
-use borrow.Author.Rules.{rules}
 use Rattle.printing.proofs.answer_text.Goals as goal
 
 pub returns : goal.returns

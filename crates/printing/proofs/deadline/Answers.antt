@@ -1,9 +1,7 @@
 -- `printing::deadline` meets its contract.
 -- Assumes nothing.
 use native.Mathlib.Omega.{arith}
-use mathlib.Core.Path.{refl}
-use Rattle.printing.proofs.TextLaws.{table_short, deadline_missing, deadline_read, deadline_near}
-use borrow.Author.Rules.{rules}
+use Rattle.printing.proofs.TextLaws.{deadline_near}
 use Rattle.printing.proofs.deadline.Goals as goal
 
 pub overflow_mul-at : goal.overflow_mul-at

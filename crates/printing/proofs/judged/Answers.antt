@@ -1,7 +1,6 @@
 -- `printing::judged` meets its contract: the tasks' lines, then the verdict's.
 -- Assumes nothing.
 use Rattle.printing.proofs.AppendLaws.{then}
-use borrow.Author.Rules.{rules}
 use Rattle.printing.proofs.judged.Goals as goal
 
 pub returns : goal.returns

@@ -1,7 +1,6 @@
 -- `printing::refusal_line` meets its contract: the number, then the place.
 -- Assumes nothing.
 use Rattle.printing.proofs.AppendLaws.{then}
-use borrow.Author.Rules.{rules}
 use Rattle.printing.proofs.refusal_line.Goals as goal
 
 pub returns : goal.returns

@@ -1,7 +1,6 @@
 -- `printing::task` meets its contract: its four parts, one after the other.
 -- Assumes nothing.
 use Rattle.printing.proofs.AppendLaws.{then}
-use borrow.Author.Rules.{rules}
 use Rattle.printing.proofs.task.Goals as goal
 
 pub returns : goal.returns

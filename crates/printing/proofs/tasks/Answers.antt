@@ -1,12 +1,6 @@
 -- `printing::tasks` meets its contract: each turn appends one line.
 -- Assumes nothing.
-use Rattle.printing.proofs.TextLaws.{Lines, lines_none, lines_more_law, lines_all}
-use mathlib.Core.Path.{◌∙◌}
-use Rattle.printing.proofs.AppendLaws.{long}
-use Prim.Native.Nat.{◌-◌}
-use native.Mathlib.Omega.{arith}
-use borrow.Author.Rules.{rules}
-use mathlib.Core.Path.{sym}
+use Rattle.printing.proofs.TextLaws.{lines_none, lines_more_law, lines_all}
 use Rattle.printing.proofs.tasks.Goals as goal
 
 pub loop-i-init : goal.loop-i-init

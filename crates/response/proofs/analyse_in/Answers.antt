@@ -2,13 +2,11 @@
 -- Assumes nothing.
 use native.Mathlib.Omega.{arith}
 use mathlib.Core.Path.{sym, ◌∙◌}
-use Rattle.model.proofs.Tests.{refuted, confirmed}
 use Rattle.tables.proofs.CheckLaws.{head_right}
 use Rattle.reading.proofs.StageLaws.{lent_again}
 use Rattle.reading.proofs.HeldLaws.{table_held}
 use Rattle.response.proofs.DecodedLaws.{room_is}
 use Rattle.response.proofs.OutcomeLaws.{read_refused, no_room}
-use borrow.Author.Rules.{rules}
 use Rattle.response.proofs.analyse_in.Goals as goal
 
 pub returns-in-Refused : goal.returns-in-Refused

@@ -3,7 +3,6 @@
 use native.Mathlib.Omega.{arith}
 use mathlib.Core.Path.{refl}
 use Rattle.response.proofs.DecodedLaws.{zeros_lent, columns_lent}
-use borrow.Author.Rules.{rules}
 use Rattle.response.proofs.analyse_large.Goals as goal
 
 pub analyse_in-requires : goal.analyse_in-requires

@@ -3,17 +3,16 @@
 use native.Mathlib.Omega.{arith}
 use Rattle.reading.proofs.HeldLaws.{held_cut, held_right}
 use Rattle.response.proofs.DecodedLaws.{room_for, ranks_held_law, periods_high, decoded_fits, table_answered}
-use borrow.Author.Rules.{rules}
 use Rattle.response.proofs.answer.Goals as goal
 
 pub bounds-table-3 : goal.bounds-table-3
 bounds-table-3 c = omega (arith, (held_right c.requires.table_held).head.long_enough)
 
 pub answer_all-requires : goal.answer_all-requires
-answer_all-requires c =    let held = held_cut _ _ _ c.requires.table_held in
+answer_all-requires c = let held = held_cut _ _ _ c.requires.table_held in
     let ranks = ranks_held_law c.requires.lent c.requires.table_held in record { decoded_fits = decoded_fits _ _ _ held _ ranks _ c.count-n.ensures.0 _ _ (omega (arith, c.requires.zeros.0.long, c.count-n.ensures.0)) c.find_blocking.ensures; periods_high = (periods_high _ _ _ held _ ranks _ c.count-n.ensures.0, omega (arith, c.requires.zeros.1, c.count-n.ensures.0)); n_in_bounds = room_for c.count-n.ensures.0 c.requires.table_in_bounds }
 
 pub returns : goal.returns
-returns c =    let held = held_cut _ _ _ c.requires.table_held in
+returns c = let held = held_cut _ _ _ c.requires.table_held in
     let ranks = ranks_held_law c.requires.lent c.requires.table_held in
     table_answered _ _ _ held _ ranks _ c.count-n.ensures.0 _ _ (omega (arith, c.requires.zeros.0.long, c.count-n.ensures.0)) c.find_blocking.ensures held.clean _ _ _ (room_for c.count-n.ensures.0 c.requires.table_in_bounds) _ _ _ c.answer_all.ensures

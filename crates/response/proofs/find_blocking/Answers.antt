@@ -3,7 +3,6 @@
 use native.Mathlib.Omega.{arith}
 use Rattle.reading.proofs.HeldLaws.{held_cut, held_right}
 use Rattle.response.proofs.DecodedLaws.{ranks_held_law, rows_held, blocking_found}
-use borrow.Author.Rules.{rules}
 use Rattle.response.proofs.find_blocking.Goals as goal
 
 pub bounds-table-3 : goal.bounds-table-3
@@ -16,4 +15,4 @@ pub blocking-requires : goal.blocking-requires
 blocking-requires c = record { rows_held = rows_held _ _ _ (held_cut _ _ _ c.requires.by_index.1) _ (ranks_held_law c.requires.lent c.requires.by_index.1) _ c.count-n.ensures.0 _ c.count-m.ensures.0; zeros = rw c.count-n.ensures.0 c.requires.zeros }
 
 pub returns : goal.returns
-returns c =    blocking_found _ _ _ (held_cut _ _ _ c.requires.by_index.1) _ (ranks_held_law c.requires.lent c.requires.by_index.1) _ c.count-n.ensures.0 _ c.count-m.ensures.0 _ _ c.blocking.ensures
+returns c = blocking_found _ _ _ (held_cut _ _ _ c.requires.by_index.1) _ (ranks_held_law c.requires.lent c.requires.by_index.1) _ c.count-n.ensures.0 _ c.count-m.ensures.0 _ _ c.blocking.ensures

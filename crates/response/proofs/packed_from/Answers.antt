@@ -1,8 +1,6 @@
 -- `response::packed_from` meets its contract: it packs the verdict of `analyse_from`, whose place is small.
 -- Assumes nothing.
 use Rattle.response.proofs.PlaceLaws.{verdict_place_law}
-use Rattle.response.proofs.OutcomeLaws.{packed_is}
-use borrow.Author.Rules.{rules}
 use Rattle.response.proofs.packed_from.Goals as goal
 
 pub pack-requires : goal.pack-requires

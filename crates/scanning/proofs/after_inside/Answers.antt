@@ -1,10 +1,7 @@
 -- `scanning::after_inside` meets its contract, by its two tests.
 -- Assumes nothing.
-use Prim.Native.Nat.{◌+◌, ◌-◌, ◌*◌}
 use native.Mathlib.Omega.{arith}
 use Rattle.scanning.proofs.ByteLaws.{digit_range, went}
-use Rattle.scanning.proofs.StepLaws.{value_kept}
-use borrow.Author.Rules.{rules}
 use Rattle.scanning.proofs.after_inside.Goals as goal
 
 pub overflow_sub-byte : goal.overflow_sub-byte

@@ -2,7 +2,6 @@
 -- Assumes nothing.
 use native.Mathlib.Omega.{arith}
 use Rattle.scanning.proofs.ByteLaws.{digit_range, went}
-use borrow.Author.Rules.{rules}
 use Rattle.scanning.proofs.after_outside.Goals as goal
 
 pub overflow_sub-result : goal.overflow_sub-result

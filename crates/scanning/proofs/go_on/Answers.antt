@@ -1,13 +1,8 @@
 -- `scanning::go_on` meets its contract: each turn takes one byte more, and what ended so far is kept.
 -- Assumes nothing.
-use Prim.Native.Nat.{◌-◌}
 use native.Mathlib.Omega.{arith}
-use mathlib.Core.Path.{refl}
 use lib.ListN.{get_or}
-use Rattle.scanning.specs.Read.{place_at}
-use Rattle.scanning.proofs.PieceLaws.{Going, going_none, going_fits, going_long, going_more, going_all}
-use borrow.Author.Rules.{rules}
-use mathlib.Core.Bool.{not}
+use Rattle.scanning.proofs.PieceLaws.{going_none, going_fits, going_more}
 use Rattle.scanning.proofs.go_on.Goals as goal
 
 pub loop-i-init : goal.loop-i-init

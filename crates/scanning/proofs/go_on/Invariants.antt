@@ -1,10 +1,5 @@
-use Prim.Native.Nat.{◌-◌}
-use native.Mathlib.Omega.{arith}
-use mathlib.Core.Path.{refl}
-use lib.ListN.{get_or}
 use Rattle.scanning.specs.Read.{place_at}
-use Rattle.scanning.proofs.PieceLaws.{Going, going_none, going_fits, going_long, going_more, going_all}
-use borrow.Author.Rules.{rules}
+use Rattle.scanning.proofs.PieceLaws.{Going}
 use Rattle.scanning.proofs.go_on.Given as goal
 
 abbrev pub invariant-loop-i : goal.invariant-loop-i

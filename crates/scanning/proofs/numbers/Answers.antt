@@ -1,8 +1,6 @@
 -- `scanning::numbers` meets its contract, by its two passes.
 -- Assumes nothing.
 use Rattle.scanning.proofs.ReadLaws.{read_fault, read_all}
-use borrow.Author.Rules.{rules}
-use mathlib.Core.Bool.{not}
 use Rattle.scanning.proofs.numbers.Goals as goal
 
 pub returns-in-Numbers : goal.returns-in-Numbers

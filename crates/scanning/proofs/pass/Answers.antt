@@ -2,10 +2,6 @@
 -- Assumes nothing.
 use native.Mathlib.Omega.{arith}
 use Rattle.scanning.proofs.PieceLaws.{begun_within, gone_within}
-use Rattle.scanning.proofs.ReadLaws.{passed}
-use borrow.Author.Rules.{rules}
-use borrow.Author.Rules.{rules}
-use mathlib.Core.Bool.{not}
 use Rattle.scanning.proofs.pass.Goals as goal
 
 pub finish-requires : goal.finish-requires

@@ -3,7 +3,6 @@
 use native.Mathlib.Omega.{arith}
 use borrow.Author.Tests.{le-leb, lt-leb}
 use Rattle.scanning.specs.Steps.{with_value}
-use borrow.Author.Rules.{rules}
 use Rattle.scanning.proofs.with_value.Goals as goal
 
 pub returns-then-value-le-LARGEST : goal.returns-then-value-le-LARGEST

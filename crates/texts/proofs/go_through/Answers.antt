@@ -1,9 +1,7 @@
 -- `texts::go_through` meets its contract.
 -- Assumes nothing.
 use native.Mathlib.Omega.{arith}
-use Rattle.texts.proofs.TextLaws.{behind_none, behind_sized, behind_bounded, behind_whole, behind_after}
-use borrow.Author.Rules.{rules}
-use mathlib.Core.Bool.{not}
+use Rattle.texts.proofs.TextLaws.{behind_sized, behind_bounded, behind_whole, behind_after}
 use Rattle.texts.proofs.go_through.Goals as goal
 
 pub take_byte-last-requires : goal.take_byte-last-requires

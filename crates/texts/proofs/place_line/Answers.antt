@@ -2,9 +2,7 @@
 -- Assumes nothing.
 use native.Mathlib.Omega.{arith}
 use Rattle.texts.proofs.TextLaws.{after_roomy, after_long, after_placed}
-use Rattle.texts.proofs.GivenLaws.{place_given, too_long}
-use borrow.Author.Rules.{rules}
-use mathlib.Core.Bool.{not}
+use Rattle.texts.proofs.GivenLaws.{place_given}
 use Rattle.texts.proofs.place_line.Goals as goal
 
 pub respond_place-requires : goal.respond_place-requires

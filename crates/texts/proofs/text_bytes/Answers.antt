@@ -2,9 +2,7 @@
 -- Assumes nothing.
 use native.Mathlib.Omega.{arith}
 use Rattle.texts.proofs.TextLaws.{after_roomy, after_long}
-use Rattle.texts.proofs.GivenLaws.{text_given, too_long}
-use borrow.Author.Rules.{rules}
-use mathlib.Core.Bool.{not}
+use Rattle.texts.proofs.GivenLaws.{text_given}
 use Rattle.texts.proofs.text_bytes.Goals as goal
 
 pub respond-requires : goal.respond-requires

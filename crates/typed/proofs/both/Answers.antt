@@ -1,8 +1,6 @@
 -- `typed::both` meets its contract.
 -- Assumes nothing.
 use Rattle.printing.proofs.AppendLaws.{then}
-use borrow.Author.Rules.{rules}
-use mathlib.Core.Bool.{not}
 use Rattle.typed.proofs.both.Goals as goal
 
 pub returns : goal.returns

@@ -1,8 +1,6 @@
 -- `typed::fault_line` meets its contract.
 -- Assumes nothing.
 use Rattle.printing.proofs.AppendLaws.{then}
-use borrow.Author.Rules.{rules}
-use mathlib.Core.Bool.{not}
 use Rattle.typed.proofs.fault_line.Goals as goal
 
 pub returns : goal.returns

@@ -2,8 +2,6 @@
 -- Assumes nothing.
 use Rattle.printing.proofs.AppendLaws.{then, as_text}
 use Rattle.typed.proofs.ByteLaws.{row_is}
-use borrow.Author.Rules.{rules}
-use mathlib.Core.Bool.{not}
 use Rattle.typed.proofs.section.Goals as goal
 
 pub returns : goal.returns

@@ -2,8 +2,6 @@
 -- Assumes nothing.
 use Rattle.printing.proofs.AppendLaws.{then, as_text}
 use Rattle.typed.proofs.ByteLaws.{size_small, bytes_are}
-use borrow.Author.Rules.{rules}
-use mathlib.Core.Bool.{not}
 use Rattle.typed.proofs.table_bytes.Goals as goal
 
 pub head-headed-requires : goal.head-headed-requires

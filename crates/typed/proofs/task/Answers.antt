@@ -2,8 +2,6 @@
 -- Assumes nothing.
 use Rattle.printing.proofs.AppendLaws.{then, as_text}
 use Rattle.typed.proofs.ByteLaws.{record_is}
-use borrow.Author.Rules.{rules}
-use mathlib.Core.Bool.{not}
 use Rattle.typed.proofs.task.Goals as goal
 
 pub returns : goal.returns

@@ -1,13 +1,7 @@
 -- `typed::tasks` meets its contract: each turn appends one more.
 -- Assumes nothing.
-use Prim.Native.Nat.{◌-◌}
 use mathlib.Core.Path.{refl}
-use native.Mathlib.Omega.{arith}
-use Rattle.encoding.specs.Bytes.{record_bytes}
-use Rattle.printing.proofs.AppendLaws.{long}
-use Rattle.printing.proofs.JoinedLaws.{Lines, lines_none, lines_more_law, lines_all}
-use Rattle.typed.specs.Bytes.{low_task}
-use mathlib.Core.Bool.{not}
+use Rattle.printing.proofs.JoinedLaws.{lines_none, lines_more_law}
 use Rattle.typed.proofs.tasks.Goals as goal
 
 pub loop-i-init : goal.loop-i-init

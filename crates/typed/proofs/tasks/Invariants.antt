@@ -1,9 +1,5 @@
-use Prim.Native.Nat.{◌-◌}
-use mathlib.Core.Path.{refl}
-use native.Mathlib.Omega.{arith}
 use Rattle.encoding.specs.Bytes.{record_bytes}
-use Rattle.printing.proofs.AppendLaws.{long}
-use Rattle.printing.proofs.JoinedLaws.{Lines, lines_none, lines_more_law, lines_all}
+use Rattle.printing.proofs.JoinedLaws.{Lines}
 use Rattle.typed.specs.Bytes.{low_task}
 use Rattle.typed.proofs.tasks.Given as goal
 

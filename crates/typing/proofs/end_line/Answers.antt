@@ -1,9 +1,6 @@
 -- `typing::end_line` meets its contract.
 -- Assumes nothing.
-use native.Mathlib.Omega.{arith}
 use Rattle.typing.specs.Reading.{state_ended}
-use borrow.Author.Rules.{rules}
-use mathlib.Core.Bool.{not}
 use Rattle.typing.proofs.end_line.Goals as goal
 
 pub returns : goal.returns

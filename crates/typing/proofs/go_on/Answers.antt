@@ -1,9 +1,6 @@
 -- `typing::go_on` meets its contract: each turn takes one byte more.
 -- Assumes nothing.
-use Prim.Native.Nat.{◌-◌}
-use native.Mathlib.Omega.{arith}
-use Rattle.typing.proofs.MemoryLaws.{Going, going_none, going_bounded, going_more, going_all}
-use mathlib.Core.Bool.{not}
+use Rattle.typing.proofs.MemoryLaws.{going_none, going_more}
 use Rattle.typing.proofs.go_on.Goals as goal
 
 pub loop-i-init : goal.loop-i-init

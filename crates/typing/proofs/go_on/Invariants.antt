@@ -1,6 +1,4 @@
-use Prim.Native.Nat.{◌-◌}
-use native.Mathlib.Omega.{arith}
-use Rattle.typing.proofs.MemoryLaws.{Going, going_none, going_bounded, going_more, going_all}
+use Rattle.typing.proofs.MemoryLaws.{Going}
 use Rattle.typing.proofs.go_on.Given as goal
 
 abbrev pub invariant-loop-i : goal.invariant-loop-i

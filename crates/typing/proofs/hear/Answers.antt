@@ -1,8 +1,6 @@
 -- `typing::hear` meets its contract.
 -- Assumes nothing.
 use Rattle.typing.specs.Reading.{state_heard}
-use borrow.Author.Rules.{rules}
-use mathlib.Core.Bool.{not}
 use Rattle.typing.proofs.hear.Goals as goal
 
 pub returns : goal.returns

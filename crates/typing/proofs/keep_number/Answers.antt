@@ -3,8 +3,6 @@
 use native.Mathlib.Omega.{arith}
 use Rattle.scanning.proofs.ByteLaws.{went}
 use Rattle.typing.proofs.LineLaws.{taken_small}
-use borrow.Author.Rules.{rules}
-use mathlib.Core.Bool.{not}
 use Rattle.typing.proofs.keep_number.Goals as goal
 
 pub overflow_cast-amount : goal.overflow_cast-amount

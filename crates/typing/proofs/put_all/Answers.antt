@@ -1,10 +1,6 @@
 -- `typing::put_all` meets its contract: each turn puts one word more.
 -- Assumes nothing.
-use Prim.Native.Nat.{◌-◌}
-use borrow.Author.Rules.{rules}
-use native.Mathlib.Omega.{arith}
-use Rattle.typing.proofs.SetLaws.{Putting, put_none, put_more, put_long, put_all_done}
-use mathlib.Core.Bool.{not}
+use Rattle.typing.proofs.SetLaws.{put_more}
 use Rattle.typing.proofs.put_all.Goals as goal
 
 pub loop-i-preserved : goal.loop-i-preserved

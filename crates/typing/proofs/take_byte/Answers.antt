@@ -1,10 +1,6 @@
 -- `typing::take_byte` meets its contract.
 -- Assumes nothing.
-use native.Mathlib.Omega.{arith}
-use mathlib.Core.Path.{sym, ◌∙◌, ap}
 use Rattle.typing.proofs.MemoryLaws.{word_bounded, word_fields, byte_taken}
-use borrow.Author.Rules.{rules}
-use mathlib.Core.Bool.{not}
 use Rattle.typing.proofs.take_byte.Goals as goal
 
 pub take_end-state-requires : goal.take_end-state-requires

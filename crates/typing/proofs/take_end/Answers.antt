@@ -1,11 +1,8 @@
 -- `typing::take_end` meets its contract.
 -- Assumes nothing.
-use native.Mathlib.Omega.{arith}
 use borrow.Author.Tests.{ne_eqb}
 use Rattle.typing.specs.Steps.{memory_after}
 use Rattle.typing.proofs.MemoryLaws.{line_ended}
-use borrow.Author.Rules.{rules}
-use mathlib.Core.Bool.{not}
 use Rattle.typing.proofs.take_end.Goals as goal
 
 pub returns-then-byte-ne10 : goal.returns-then-byte-ne10

@@ -1,17 +1,10 @@
 -- `words::count` meets its contract, test by test.
 -- Assumes nothing.
-use borrow.Author.Tests.{eq-eqb, ne_eqb, lt-ltb, le-ltb, not-true, not-false}
-use Rattle.words.specs.Words.{is_blank, is_end, spelled_after, amount_after}
+use borrow.Author.Tests.{lt-ltb, le-ltb}
+use Rattle.words.specs.Words.{amount_after}
 use native.Mathlib.Omega.{arith}
-use Rattle.model.proofs.Tests.{refuted, confirmed}
 use Rattle.scanning.proofs.ByteLaws.{digit_range}
-use borrow.Author.Rules.{rules}
-use Rattle.words.proofs.count.Reads as reads
-use Rattle.words.proofs.count.Lts as lts
-use Rattle.scanning.proofs.is_digit.Reads as is-digit-reads
-use Rattle.words.proofs.smaller.Reads as smaller-reads
-use mathlib.Core.Path.{sym, ◌∙◌, ap}
-use mathlib.Core.Bool.{not}
+use mathlib.Core.Path.{sym, ◌∙◌}
 use Rattle.words.proofs.count.Goals as goal
 
 pub returns-then-not-is_digit : goal.returns-then-not-is_digit

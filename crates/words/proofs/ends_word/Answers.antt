@@ -1,12 +1,7 @@
 -- `words::ends_word` meets its contract.
 -- Assumes nothing.
-use borrow.Author.Tests.{eq-eqb, ne_eqb, lt-ltb, le-ltb, not-true, not-false}
-use Rattle.words.specs.Steps.{grown_by, settled_by, ends_word, went_by}
-use borrow.Author.Rules.{rules}
-use Rattle.words.proofs.ends_word.Reads as reads
-use Rattle.words.proofs.ends_word.Lts as lts
-use Rattle.words.proofs.is_end.Reads as is-end-reads
-use mathlib.Core.Bool.{not}
+use borrow.Author.Tests.{eq-eqb, ne_eqb}
+use Rattle.words.specs.Steps.{ends_word}
 use Rattle.words.proofs.ends_word.Goals as goal
 
 pub returns-then-spot-eq-NO_LETTER : goal.returns-then-spot-eq-NO_LETTER

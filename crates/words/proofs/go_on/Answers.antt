@@ -2,19 +2,9 @@
 -- Assumes nothing.
 use mathlib.Core.Path.{sym, ◌∙◌}
 use Rattle.words.proofs.StepLaws.{went_letter}
-use borrow.Author.Tests.{eq-eqb, ne_eqb, lt-ltb, le-ltb, not-true, not-false}
-use Rattle.words.specs.Steps.{grown_by, settled_by, ends_word, went_by}
+use borrow.Author.Tests.{eq-eqb, ne_eqb}
+use Rattle.words.specs.Steps.{went_by}
 use Rattle.scanning.proofs.ByteLaws.{went}
-use borrow.Author.Rules.{rules}
-use Rattle.words.proofs.go_on.Reads as reads
-use Rattle.words.proofs.go_on.Lts as lts
-use Rattle.words.proofs.begin.Reads as begin-reads
-use Rattle.words.proofs.begin_comment.Reads as begin-comment-reads
-use Rattle.words.proofs.grow.Reads as grow-reads
-use Rattle.words.proofs.is_blank.Reads as is-blank-reads
-use Rattle.words.proofs.returned.Reads as returned-reads
-use mathlib.Core.Path.{ap}
-use mathlib.Core.Bool.{not}
 use Rattle.words.proofs.go_on.Goals as goal
 
 pub returns-then-byte-eq10 : goal.returns-then-byte-eq10

@@ -1,10 +1,7 @@
 -- `words::is_blank` meets its contract, test by test.
 -- Assumes nothing.
-use borrow.Author.Tests.{eq-eqb, ne_eqb, lt-ltb, le-ltb, not-true, not-false}
-use Rattle.words.specs.Words.{is_blank, is_end, spelled_after, amount_after}
-use Rattle.words.proofs.is_blank.Reads as reads
-use Rattle.words.proofs.is_blank.Lts as lts
-use mathlib.Core.Bool.{not}
+use borrow.Author.Tests.{eq-eqb, ne_eqb}
+use Rattle.words.specs.Words.{is_blank}
 use Rattle.words.proofs.is_blank.Goals as goal
 
 pub returns-then-byte-eq32 : goal.returns-then-byte-eq32

@@ -1,12 +1,7 @@
 -- `words::is_end` meets its contract, test by test.
 -- Assumes nothing.
-use borrow.Author.Tests.{eq-eqb, ne_eqb, lt-ltb, le-ltb, not-true, not-false}
-use Rattle.words.specs.Words.{is_blank, is_end, spelled_after, amount_after}
-use borrow.Author.Rules.{rules}
-use Rattle.words.proofs.is_end.Reads as reads
-use Rattle.words.proofs.is_end.Lts as lts
-use Rattle.words.proofs.is_blank.Reads as is-blank-reads
-use mathlib.Core.Bool.{not}
+use borrow.Author.Tests.{eq-eqb, ne_eqb}
+use Rattle.words.specs.Words.{is_end}
 use Rattle.words.proofs.is_end.Goals as goal
 
 pub returns-then-byte-eq10 : goal.returns-then-byte-eq10

@@ -2,14 +2,8 @@
 -- Assumes nothing.
 use mathlib.Core.Path.{sym, ◌∙◌}
 use Rattle.words.proofs.StepLaws.{settled_letter}
-use borrow.Author.Tests.{eq-eqb, ne_eqb, lt-ltb, le-ltb, not-true, not-false}
-use Rattle.words.specs.Steps.{grown_by, settled_by, ends_word, went_by}
-use borrow.Author.Rules.{rules}
-use Rattle.words.proofs.settle.Reads as reads
-use Rattle.words.proofs.settle.Lts as lts
-use Rattle.words.proofs.grow.Reads as grow-reads
-use mathlib.Core.Path.{ap}
-use mathlib.Core.Bool.{not}
+use borrow.Author.Tests.{eq-eqb, ne_eqb, not-true, not-false}
+use Rattle.words.specs.Steps.{settled_by}
 use Rattle.words.proofs.settle.Goals as goal
 
 pub returns-then-not-spot : goal.returns-then-not-spot

@@ -2,7 +2,6 @@
 -- Assumes nothing.
 use Rattle.printing.proofs.AppendLaws.{then, nothing, as_text}
 use Rattle.writing.proofs.DelayLaws.{delays_both, delays_latest, delays_none}
-use borrow.Author.Rules.{rules}
 use Rattle.writing.proofs.delays.Goals as goal
 
 pub returns-then-earliest-ne0 : goal.returns-then-earliest-ne0

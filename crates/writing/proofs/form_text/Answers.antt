@@ -4,7 +4,6 @@ use mathlib.Core.Path.{sym, ◌∙◌}
 use Rattle.tables.proofs.OrderLaws.{read_clean}
 use Rattle.printing.proofs.AppendLaws.{as_text}
 use Rattle.writing.proofs.Forms.{form_is}
-use borrow.Author.Rules.{rules}
 use Rattle.writing.proofs.form_text.Goals as goal
 
 pub form-requires : goal.form-requires

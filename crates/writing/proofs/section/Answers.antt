@@ -2,7 +2,6 @@
 -- Assumes nothing.
 use Rattle.printing.proofs.AppendLaws.{then}
 use Rattle.writing.specs.Text.{section_line}
-use borrow.Author.Rules.{rules}
 use Rattle.writing.proofs.section.Goals as goal
 
 pub returns : goal.returns

@@ -1,14 +1,9 @@
 -- `writing::sections` meets its contract: each turn appends one line.
 -- Assumes nothing.
-use Prim.Native.Nat.{◌-◌}
 use native.Mathlib.Omega.{arith}
-use Rattle.tables.specs.Layout.{row_at}
 use Rattle.tables.proofs.CheckLaws.{head_right}
-use Rattle.printing.proofs.AppendLaws.{long}
-use Rattle.writing.specs.Text.{section_line}
-use Rattle.printing.proofs.JoinedLaws.{Lines, lines_none, lines_more_law, lines_all}
+use Rattle.printing.proofs.JoinedLaws.{lines_none, lines_more_law}
 use Rattle.writing.proofs.HeadLaws.{head_read, records_near, row_fits, row_near, row_is}
-use borrow.Author.Rules.{rules}
 use Rattle.writing.proofs.sections.Goals as goal
 
 pub bounds-table-0 : goal.bounds-table-0
@@ -30,12 +25,12 @@ pub overflow_add-layout : goal.overflow_add-layout
 overflow_add-layout c = omega (arith, records_near _ _ _ (head_read c.requires c.of-layout.ensures c.count-n.ensures.0))
 
 pub overflow_add-layout-in-loop-k : goal.overflow_add-layout-in-loop-k
-overflow_add-layout-in-loop-k c =    let head = head_read c.requires c.of-layout.ensures c.count-n.ensures.0 in
+overflow_add-layout-in-loop-k c = let head = head_read c.requires c.of-layout.ensures c.count-n.ensures.0 in
     omega (arith, records_near _ _ _ head, row_near _ _ _ head _ c.count-m.ensures.0 _ c.loop-k-test.true)
 
 pub read-row-requires : goal.read-row-requires
 read-row-requires c = row_fits _ _ _ (head_read c.requires c.of-layout.ensures c.count-n.ensures.0) _ c.count-m.ensures.0 _ c.loop-k-test.true
 
 pub loop-k-preserved : goal.loop-k-preserved
-loop-k-preserved c =    let head = head_read c.requires c.of-layout.ensures c.count-n.ensures.0 in
+loop-k-preserved c = let head = head_read c.requires c.of-layout.ensures c.count-n.ensures.0 in
     lines_more_law c.loop-k.invariant c.loop-k-test.true (row_is _ _ _ head _ c.count-m.ensures.0 _ c.loop-k-test.true c.read-row.ensures.result_value) c.section-next.ensures

@@ -2,7 +2,6 @@
 -- Assumes nothing.
 use Rattle.printing.proofs.AppendLaws.{then}
 use Rattle.writing.specs.Text.{task_line}
-use borrow.Author.Rules.{rules}
 use Rattle.writing.proofs.task.Goals as goal
 
 pub returns : goal.returns

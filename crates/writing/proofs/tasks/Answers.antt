@@ -1,15 +1,10 @@
 -- `writing::tasks` meets its contract: each turn appends one line.
 -- Assumes nothing.
-use Prim.Native.Nat.{◌-◌}
 use native.Mathlib.Omega.{arith}
-use Rattle.tables.specs.Layout.{task_at}
 use Rattle.tables.proofs.CheckLaws.{head_right}
 use Rattle.records.proofs.ColumnLaws.{sound}
-use Rattle.printing.proofs.AppendLaws.{long}
-use Rattle.writing.specs.Text.{task_line}
-use Rattle.printing.proofs.JoinedLaws.{Lines, lines_none, lines_more_law, lines_all}
+use Rattle.printing.proofs.JoinedLaws.{lines_none, lines_more_law}
 use Rattle.writing.proofs.HeadLaws.{head_read, record_near, record_fits, record_is}
-use borrow.Author.Rules.{rules}
 use Rattle.writing.proofs.tasks.Goals as goal
 
 pub bounds-table-0 : goal.bounds-table-0
@@ -28,8 +23,8 @@ pub overflow_add-layout : goal.overflow_add-layout
 overflow_add-layout c = omega (arith, record_near _ _ _ (head_read c.requires c.of-layout.ensures c.count-n.ensures.0) _ c.loop-i-test.true)
 
 pub read-record-requires : goal.read-record-requires
-read-record-requires c =    let head = head_read c.requires c.of-layout.ensures c.count-n.ensures.0 in record { sound = sound _ _ _ head; size_in_bounds = record_fits _ _ _ head _ c.loop-i-test.true }
+read-record-requires c = let head = head_read c.requires c.of-layout.ensures c.count-n.ensures.0 in record { sound = sound _ _ _ head; size_in_bounds = record_fits _ _ _ head _ c.loop-i-test.true }
 
 pub loop-i-preserved : goal.loop-i-preserved
-loop-i-preserved c =    let head = head_read c.requires c.of-layout.ensures c.count-n.ensures.0 in
+loop-i-preserved c = let head = head_read c.requires c.of-layout.ensures c.count-n.ensures.0 in
     lines_more_law c.loop-i.invariant c.loop-i-test.true (record_is _ _ _ head _ c.loop-i-test.true c.read-record.ensures.result_value) c.task-next.ensures

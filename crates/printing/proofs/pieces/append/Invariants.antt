@@ -1,6 +1,4 @@
-use Prim.Native.Nat.{◌-◌}
-use native.Mathlib.Omega.{arith}
-use Rattle.printing.proofs.AppendLaws.{Copied, copied_none, copied_more, copied_all}
+use Rattle.printing.proofs.AppendLaws.{Copied}
 use Rattle.printing.proofs.pieces.append.Given as goal
 
 abbrev pub invariant-loop-i : goal.invariant-loop-i

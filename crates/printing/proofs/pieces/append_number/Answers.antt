@@ -1,7 +1,6 @@
 -- `printing::pieces::append_number` meets its contract: the digits that `io::decimal` gives, appended.
 -- Assumes nothing.
 use native.Mathlib.Omega.{arith}
-use borrow.Author.Rules.{rules}
 use Rattle.printing.proofs.AppendLaws.{as_text}
 use Rattle.printing.proofs.NumberLaws.{decimal_is}
 use Rattle.printing.proofs.pieces.append_number.Goals as goal

@@ -1,6 +1,5 @@
 -- `printing::pieces::append_with_number` meets its contract: the word, then the number.
 -- Assumes nothing.
-use borrow.Author.Rules.{rules}
 use Rattle.printing.proofs.AppendLaws.{then}
 use Rattle.printing.proofs.pieces.append_with_number.Goals as goal
 

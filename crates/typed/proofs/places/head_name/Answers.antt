@@ -1,10 +1,8 @@
 -- `typed::places::head_name` meets its contract, test by test.
 -- Assumes nothing.
 use native.Mathlib.Omega.{arith}
-use borrow.Author.Tests.{lt-ltb, le-ltb, eq-eqb, ne_eqb}
+use borrow.Author.Tests.{lt-ltb, le-ltb}
 use Rattle.typed.specs.Places.{head_name}
-use borrow.Author.Rules.{rules}
-use mathlib.Core.Bool.{not}
 use Rattle.typed.proofs.places.head_name.Goals as goal
 
 pub returns-then-at-lt1 : goal.returns-then-at-lt1

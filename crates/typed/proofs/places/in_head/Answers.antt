@@ -2,8 +2,6 @@
 -- Assumes nothing.
 use Rattle.printing.proofs.AppendLaws.{then}
 use Rattle.typed.specs.Places.{head_said}
-use borrow.Author.Rules.{rules}
-use mathlib.Core.Bool.{not}
 use Rattle.typed.proofs.places.in_head.Goals as goal
 
 pub returns : goal.returns

@@ -1,8 +1,6 @@
 -- `typed::places::in_record` meets its contract.
 -- Assumes nothing.
 use Rattle.printing.proofs.AppendLaws.{then}
-use borrow.Author.Rules.{rules}
-use mathlib.Core.Bool.{not}
 use Rattle.typed.proofs.places.in_record.Goals as goal
 
 pub returns : goal.returns

@@ -1,12 +1,9 @@
 -- `typed::places::place_line` meets its contract, test by test.
 -- Assumes nothing.
-use Prim.Native.Nat.{◌-◌}
 use native.Mathlib.Omega.{arith}
 use Rattle.printing.proofs.AppendLaws.{as_text}
 use Rattle.typed.proofs.ByteLaws.{size_small}
-use Rattle.typed.proofs.PlaceLaws.{record_within, records_small, in_head_law, in_record_law, in_row_law}
-use borrow.Author.Rules.{rules}
-use mathlib.Core.Bool.{not}
+use Rattle.typed.proofs.PlaceLaws.{records_small, in_head_law, in_record_law, in_row_law}
 use Rattle.typed.proofs.places.place_line.Goals as goal
 
 pub returns-then-place-lt-HEAD_SIZE : goal.returns-then-place-lt-HEAD_SIZE

@@ -1,9 +1,7 @@
 -- `typed::places::say_line` meets its contract, test by test.
 -- Assumes nothing.
-use borrow.Author.Tests.{lt-ltb, le-ltb, eq-eqb, ne_eqb}
+use borrow.Author.Tests.{ne_eqb}
 use Rattle.printing.proofs.AppendLaws.{then}
-use borrow.Author.Rules.{rules}
-use mathlib.Core.Bool.{not}
 use Rattle.typed.proofs.places.say_line.Goals as goal
 
 pub returns : goal.returns

@@ -1,8 +1,6 @@
 -- `typing::lines::after_word` meets its contract, case by case.
 -- Assumes nothing.
 use Rattle.typing.specs.Lines.{line_after}
-use borrow.Author.Rules.{rules}
-use mathlib.Core.Bool.{not}
 use Rattle.typing.proofs.lines.after_word.Goals as goal
 
 pub returns-in-Blank : goal.returns-in-Blank

@@ -1,8 +1,6 @@
 -- `typing::lines::at_end` meets its contract, case by case.
 -- Assumes nothing.
 use Rattle.typing.specs.Lines.{ended_line}
-use borrow.Author.Rules.{rules}
-use mathlib.Core.Bool.{not}
 use Rattle.typing.proofs.lines.at_end.Goals as goal
 
 pub returns-in-Blank : goal.returns-in-Blank

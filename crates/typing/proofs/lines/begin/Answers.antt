@@ -1,10 +1,8 @@
 -- `typing::lines::begin` meets its contract, test by test.
 -- Assumes nothing.
-use borrow.Author.Tests.{eq-eqb, ne_eqb, lt-ltb, le-ltb, le-leb, lt-leb}
+use borrow.Author.Tests.{eq-eqb, ne_eqb}
 use Rattle.typing.specs.Lines.{begun_by}
 use Rattle.words.specs.Words.{spelled_after, spelled_from}
-use borrow.Author.Rules.{rules}
-use mathlib.Core.Bool.{not}
 use Rattle.typing.proofs.lines.begin.Goals as goal
 
 pub returns-then-spelling-eq-TASK : goal.returns-then-spelling-eq-TASK

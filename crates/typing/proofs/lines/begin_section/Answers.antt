@@ -1,9 +1,8 @@
 -- `typing::lines::begin_section` meets its contract, test by test.
 -- Assumes nothing.
-use borrow.Author.Tests.{eq-eqb, ne_eqb, lt-ltb, le-ltb, le-leb, lt-leb}
+use borrow.Author.Tests.{le-leb, lt-leb}
 use native.Mathlib.Omega.{arith}
 use Rattle.typing.specs.Lines.{section_begun}
-use mathlib.Core.Bool.{not}
 use Rattle.typing.proofs.lines.begin_section.Goals as goal
 
 pub returns-then-counts-ge-MOST_SECTIONS : goal.returns-then-counts-ge-MOST_SECTIONS

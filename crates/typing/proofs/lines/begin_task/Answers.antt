@@ -1,9 +1,8 @@
 -- `typing::lines::begin_task` meets its contract, test by test.
 -- Assumes nothing.
-use borrow.Author.Tests.{eq-eqb, ne_eqb, lt-ltb, le-ltb, le-leb, lt-leb}
+use borrow.Author.Tests.{lt-ltb, le-ltb, le-leb, lt-leb}
 use native.Mathlib.Omega.{arith}
 use Rattle.typing.specs.Lines.{task_begun}
-use mathlib.Core.Bool.{not}
 use Rattle.typing.proofs.lines.begin_task.Goals as goal
 
 pub returns-then-counts-gt0 : goal.returns-then-counts-gt0

@@ -1,10 +1,8 @@
 -- `typing::lines::go_on` meets its contract, test by test.
 -- Assumes nothing.
-use borrow.Author.Tests.{eq-eqb, ne_eqb, lt-ltb, le-ltb, le-leb, lt-leb}
+use borrow.Author.Tests.{eq-eqb, ne_eqb, lt-ltb, le-ltb}
 use native.Mathlib.Omega.{arith}
 use Rattle.typing.specs.Lines.{needed_for, went_on}
-use borrow.Author.Rules.{rules}
-use mathlib.Core.Bool.{not}
 use Rattle.typing.proofs.lines.go_on.Goals as goal
 
 pub returns-then-count-needed : goal.returns-then-count-needed

@@ -1,10 +1,8 @@
 -- `typing::lines::is_taken` meets its contract, test by test.
 -- Assumes nothing.
-use borrow.Author.Tests.{eq-eqb, ne_eqb, lt-ltb, le-ltb, le-leb, lt-leb}
+use borrow.Author.Tests.{lt-ltb, le-ltb}
 use native.Mathlib.Omega.{arith}
 use Rattle.typing.specs.Lines.{needed_for, is_taken}
-use borrow.Author.Rules.{rules}
-use mathlib.Core.Bool.{not}
 use Rattle.typing.proofs.lines.is_taken.Goals as goal
 
 pub returns-then-needed-count : goal.returns-then-needed-count

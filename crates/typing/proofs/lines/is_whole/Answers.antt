@@ -1,8 +1,6 @@
 -- `typing::lines::is_whole` meets its contract.
 -- Assumes nothing.
 use Rattle.typing.specs.Lines.{is_whole}
-use borrow.Author.Rules.{rules}
-use mathlib.Core.Bool.{not}
 use Rattle.typing.proofs.lines.is_whole.Goals as goal
 
 pub returns : goal.returns

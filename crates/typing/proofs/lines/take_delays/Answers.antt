@@ -1,9 +1,8 @@
 -- `typing::lines::take_delays` meets its contract, test by test.
 -- Assumes nothing.
-use borrow.Author.Tests.{eq-eqb, ne_eqb, lt-ltb, le-ltb, le-leb, lt-leb}
+use borrow.Author.Tests.{eq-eqb, ne_eqb}
 use Rattle.typing.specs.Lines.{delays_behind}
 use Rattle.words.specs.Words.{spelled_after, spelled_from}
-use mathlib.Core.Bool.{not}
 use Rattle.typing.proofs.lines.take_delays.Goals as goal
 
 pub returns-then-spelling-eq-JITTER : goal.returns-then-spelling-eq-JITTER

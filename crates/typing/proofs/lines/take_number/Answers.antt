@@ -1,11 +1,8 @@
 -- `typing::lines::take_number` meets its contract, test by test.
 -- Assumes nothing.
-use borrow.Author.Tests.{eq-eqb, ne_eqb, lt-ltb, le-ltb, le-leb, lt-leb}
+use borrow.Author.Tests.{eq-eqb, ne_eqb, lt-ltb, le-ltb}
 use native.Mathlib.Omega.{arith}
 use Rattle.typing.specs.Lines.{limit_for, number_line}
-use Rattle.typing.proofs.LineLaws.{needed_few}
-use borrow.Author.Rules.{rules}
-use mathlib.Core.Bool.{not}
 use Rattle.typing.proofs.lines.take_number.Goals as goal
 
 pub returns-then-amount-eq-NOT_WHOLE : goal.returns-then-amount-eq-NOT_WHOLE

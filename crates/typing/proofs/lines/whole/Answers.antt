@@ -2,8 +2,6 @@
 -- Assumes nothing.
 use Rattle.scanning.proofs.ByteLaws.{went}
 use Rattle.typing.specs.Lines.{whole_line}
-use borrow.Author.Rules.{rules}
-use mathlib.Core.Bool.{not}
 use Rattle.typing.proofs.lines.whole.Goals as goal
 
 pub returns-then-is_whole : goal.returns-then-is_whole
