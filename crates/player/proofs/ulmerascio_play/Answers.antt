@@ -1,11 +1,6 @@
 -- `player::ulmerascio_play` meets its contract: it packs the verdict of `play`, whose place is small.
 -- Assumes nothing.
-use borrow.Author.Rules.{rules}
-use mathlib.Core.Path.{◌∙◌, ap}
 use Rattle.engine.proofs.Claims.{play_place}
-use Rattle.response.specs.Verdicts.{packed}
-use mathlib.Core.Path.{sym}
-use mathlib.Core.Bool.{not}
 use Rattle.player.proofs.ulmerascio_play.Goals as goal
 
 pub pack-requires : goal.pack-requires
