@@ -1,5 +1,7 @@
 // A report's line for one table (SPECIFICATION 13.12; document 02, L10): the table's number, the verdict of the analysis, and three
 // figures of a table that is not refused. It is appended to a text in a lent buffer.
+#![tactic(auto)]
+
 ghost use Rattle.std.specs.Prelude.{◌≡◌, ◌++◌};
 ghost use Rattle.tables.specs.Meaning.{TableRight};
 ghost use Rattle.printing.specs.Appended.{Appended};

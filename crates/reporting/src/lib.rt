@@ -1,5 +1,7 @@
 // A report of many tables that stand end to end in one file (SPECIFICATION 13.12; document 02, L10). It is told of the file's bytes piece by
 // piece, cut anywhere, and keeps three counts and the bytes of the table at hand.
+#![tactic(auto)]
+
 ghost use Rattle.std.specs.Prelude.{◌≡◌, ◌+◌, ◌-◌, ◌≤◌, ◌<◌, min, ltb, length};
 ghost use Rattle.model.specs.Choice.{pick};
 ghost use Rattle.tables.specs.Layout.{stated_length};

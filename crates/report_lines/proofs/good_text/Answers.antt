@@ -4,8 +4,6 @@ use mathlib.Core.Path.{◌∙◌, ap}
 use Rattle.printing.proofs.AppendLaws.{then, as_text}
 use Rattle.utilisation.specs.Bound.{bound_of}
 use Rattle.report_lines.proofs.LineLaws.{some_tasks, figures_are}
-use borrow.Author.Rules.{rules}
-use mathlib.Core.Path.{sym}
 use Rattle.report_lines.proofs.good_text.Goals as goal
 
 pub bound-requires : goal.bound-requires

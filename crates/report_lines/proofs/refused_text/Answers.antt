@@ -1,7 +1,6 @@
 -- `report_lines::refused_text` meets its contract: a blank, and the line.
 -- Assumes nothing.
 use Rattle.printing.proofs.AppendLaws.{then}
-use borrow.Author.Rules.{rules}
 use Rattle.report_lines.proofs.refused_text.Goals as goal
 
 pub returns : goal.returns

@@ -3,7 +3,6 @@
 use mathlib.Core.Path.{sym, ◌∙◌}
 use Rattle.printing.proofs.AppendLaws.{then, as_text}
 use Rattle.report_lines.proofs.LineLaws.{schedulable_right, late_right, line_is}
-use borrow.Author.Rules.{rules}
 use Rattle.report_lines.proofs.table_line.Goals as goal
 
 pub good_text-requires : goal.good_text-requires

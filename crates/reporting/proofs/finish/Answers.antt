@@ -2,8 +2,6 @@
 -- Assumes nothing.
 use Rattle.printing.proofs.AppendLaws.{then, as_text}
 use Rattle.reporting.proofs.ClosingLaws.{closing_broken, closing_whole}
-use borrow.Author.Rules.{rules}
-use mathlib.Core.Bool.{not}
 use Rattle.reporting.proofs.finish.Goals as goal
 
 pub returns-then-report-gt0 : goal.returns-then-report-gt0

@@ -1,11 +1,6 @@
 -- `reporting::go_on` meets its contract, one part of the bytes after the other.
 -- Assumes nothing.
-use Prim.Native.Nat.{◌-◌}
-use lib.ListN.{length}
-use native.Mathlib.Omega.{arith}
-use borrow.Author.Rules.{rules}
-use Rattle.reporting.proofs.SafeLaws.{taken_due, taken_some, Going, going_none, part_long, used_within, going_part, going_more, going_all}
-use mathlib.Core.Bool.{not}
+use Rattle.reporting.proofs.SafeLaws.{going_none, used_within, going_more}
 use Rattle.reporting.proofs.go_on.Goals as goal
 
 pub loop-used-init : goal.loop-used-init

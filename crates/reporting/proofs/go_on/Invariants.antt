@@ -1,8 +1,6 @@
 use Prim.Native.Nat.{◌-◌}
 use lib.ListN.{length}
-use native.Mathlib.Omega.{arith}
-use borrow.Author.Rules.{rules}
-use Rattle.reporting.proofs.SafeLaws.{taken_due, taken_some, Going, going_none, part_long, used_within, going_part, going_more, going_all}
+use Rattle.reporting.proofs.SafeLaws.{Going}
 use Rattle.reporting.proofs.go_on.Given as goal
 
 abbrev pub invariant-loop-used : goal.invariant-loop-used

@@ -4,8 +4,6 @@ use mathlib.Core.Path.{refl}
 use native.Mathlib.Omega.{arith}
 use Rattle.reporting.proofs.SafeLaws.{countable_begun_law}
 use Rattle.reporting.proofs.PiecesLaws.{text_of_file}
-use borrow.Author.Rules.{rules}
-use mathlib.Core.Bool.{not}
 use Rattle.reporting.proofs.report_text.Goals as goal
 
 pub go_on-told-requires : goal.go_on-told-requires

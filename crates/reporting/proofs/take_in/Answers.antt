@@ -1,9 +1,8 @@
 -- `reporting::take_in` meets its contract: no table ends, its head has come, or it is whole.
 -- Assumes nothing.
-use Rattle.reporting.proofs.SafeLaws.{come_fits, head_there, kept_within, kept_long, counted_fits}
+use Rattle.reporting.proofs.SafeLaws.{come_fits, head_there, counted_fits}
 use Rattle.reporting.proofs.StreamLaws.{goes_pending, goes_headed, goes_ended}
 use borrow.Author.Rules.{rules}
-use mathlib.Core.Bool.{not}
 use Rattle.reporting.proofs.take_in.Goals as goal
 
 pub overflow_add-come : goal.overflow_add-come
