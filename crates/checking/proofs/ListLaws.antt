@@ -1,5 +1,6 @@
 -- What is found of a list's text and a table: the words that are kept stand for the whole list.
 -- Assumes nothing.
+use Rattle.std.specs.Prelude.{Ok, Err}
 use Prim.Native.Nat.{ℕ, ◌<◌, min}
 use native.Mathlib.Omega.{arith}
 use native.Mathlib.Decide.{dec_le}
@@ -8,8 +9,7 @@ use mathlib.Core.Bool.{true}
 use mathlib.Core.List.{List, ◌++◌, flatten}
 use lib.ListN.{length, take, drop, length-take}
 use lib.Seq.{take_all, take-append_seam}
-use Rattle.tables.specs.declared.Check.{Check}
-use Rattle.tables.specs.declared.Check.TheVariants as check
+use Rattle.tables.specs.Refusals.{Check}
 use Rattle.tables.specs.Checks.{read_check}
 use Rattle.claims.specs.declared.Claimed.{Claimed}
 use Rattle.claims.specs.Claims.{claimed_of, Checked}
@@ -37,8 +37,8 @@ same_answer bytes claims =
     ]
   where
     go : (c : Check) → read_check 1 bytes ≡ c → 201 < length claims → claimed_of bytes (take 201 claims) ≡ claimed_of bytes claims
-    go (check.Refused refusal) e h = sym (read_refused bytes (take 201 claims) refusal (sym e)) ∙ read_refused bytes claims refusal (sym e)
-    go check.Clean e h =
+    go (Err refusal) e h = sym (read_refused bytes (take 201 claims) refusal (sym e)) ∙ read_refused bytes claims refusal (sym e)
+    go (Ok _) e h =
         sym (wrong_count bytes (take 201 claims) e (λ same. omega (arith, same, length-take 201 claims, few_tasks_law bytes e)))
         ∙ wrong_count bytes claims e (λ same. omega (arith, same, few_tasks_law bytes e))
 

@@ -1,5 +1,6 @@
 -- What is claimed of the checker for the bytes of any table and any list of words.
 -- Assumes nothing.
+use Rattle.std.specs.Prelude.{Ok, Err}
 use Prim.Native.Nat.{ℕ, ◌-◌, ◌≤◌, ◌<◌}
 use native.Mathlib.Omega.{arith}
 use native.Mathlib.Nat.{le_refl, le_of_eq}
@@ -14,9 +15,8 @@ use Rattle.model.specs.Lists.{word_of}
 use Rattle.model.specs.Tables.{Table, task_of, loads_of}
 use Rattle.model.proofs.Tests.{bool?, eqb?, clash}
 use Rattle.model.proofs.First.{none_found}
+use Rattle.tables.specs.Refusals.{Check}
 use Rattle.tables.specs.declared.Refusal.{Refusal}
-use Rattle.tables.specs.declared.Check.{Check}
-use Rattle.tables.specs.declared.Check.TheVariants as check
 use Rattle.tables.specs.Fields.{task_count_field}
 use Rattle.tables.specs.Layout.{task_count, tasks_of, table_of}
 use Rattle.tables.specs.Checks.{read_check, table_check}
@@ -86,21 +86,21 @@ module _ (bytes : List ℕ) where
   with_room = go (read_check 1 bytes) refl
     where
       go : (c : Check) → read_check 1 bytes ≡ c → table_check bytes (task_count bytes) (task_count bytes) ≡ read_check 1 bytes
-      go check.Clean e =
+      go (Ok _) e =
           pass_checks 1 bytes (task_count bytes) (task_count bytes) e (task_count bytes) refl (le_refl (task_count bytes)) (le_refl (task_count bytes)) ∙ sym e
-      go (check.Refused r) e = read_decides 1 bytes (task_count bytes) (task_count bytes) r (sym e) ∙ sym e
+      go (Err r) e = read_decides 1 bytes (task_count bytes) (task_count bytes) r (sym e) ∙ sym e
 
-  right_clean : TableRight bytes → read_check 1 bytes ≡ check.Clean
+  right_clean : TableRight bytes → read_check 1 bytes ≡ Ok tt
   right_clean right = sym with_room ∙ table_clean 1 bytes (task_count bytes) (task_count bytes) right room
 
-  clean_right : read_check 1 bytes ≡ check.Clean → TableRight bytes
+  clean_right : read_check 1 bytes ≡ Ok tt → TableRight bytes
   clean_right e = (table_right 1 bytes (task_count bytes) (task_count bytes) (with_room ∙ e)).0
 
   few_right : TableRight bytes → task_count bytes ≤ 200
   few_right right = omega (arith, (right.head.counts task_count_field).high, (layout_sound bytes right.head.version).few)
 
   -- what is read and not refused has at most 200 tasks
-  pub few_tasks_law : read_check 1 bytes ≡ check.Clean → task_count bytes ≤ 200
+  pub few_tasks_law : read_check 1 bytes ≡ Ok tt → task_count bytes ≤ 200
   few_tasks_law e = few_right (clean_right e)
 
 module _ (bytes claims : List ℕ) where
@@ -123,10 +123,10 @@ module _ (bytes claims : List ℕ) where
   found_right_law = go (read_check 1 bytes) refl
     where
       go : (c : Check) → read_check 1 bytes ≡ c → ClaimedRight bytes claims (claimed_of bytes claims)
-      go (check.Refused r) e =
+      go (Err r) e =
           subst (ClaimedRight bytes claims) (read_refused bytes claims r (sym e))
           (table_deserved 1 bytes (task_count bytes) (task_count bytes) r (with_room bytes ∙ e))
-      go check.Clean e =
+      go (Ok _) e =
           elim (eqb? (length claims) (task_count bytes)) [
             | inl q ↦
                 subst (ClaimedRight bytes claims) (sym (compared bytes claims e q.1))

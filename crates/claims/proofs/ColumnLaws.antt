@@ -1,5 +1,6 @@
 -- The columns that hold a table give the answer for the table that the bytes mean.
 -- Assumes nothing.
+use Rattle.std.specs.Prelude.{Ok, Err}
 use Prim.Native.Nat.{ℕ, ◌≤◌, ◌<◌}
 use mathlib.Core.Path.{◌≡◌, refl, sym, ◌∙◌, ap}
 use mathlib.Core.Bool.{Bool}
@@ -10,7 +11,6 @@ use Rattle.model.specs.Choice.{pick}
 use Rattle.model.specs.Lists.{filled}
 use Rattle.model.proofs.First.{first_same}
 use Rattle.tables.specs.declared.Refusal.{Refusal}
-use Rattle.tables.specs.declared.Check.TheVariants as check
 use Rattle.tables.specs.Layout.{task_count, table_of}
 use Rattle.tables.specs.Refusals.{at}
 use Rattle.tables.specs.Checks.{read_check}
@@ -23,17 +23,17 @@ use Rattle.claims.specs.Claims.{passes_at, is_pass, fails_at, compared_of, claim
 use Rattle.claims.specs.Columns.{passes_in}
 
 -- what is refused in reading is refused
-pub read_refused : (bytes claims : List ℕ) (refusal : Refusal) → check.Refused refusal ≡ read_check 1 bytes → Checked bytes claims (Refused refusal)
+pub read_refused : (bytes claims : List ℕ) (refusal : Refusal) → Err refusal ≡ read_check 1 bytes → Checked bytes claims (Refused refusal)
 unfolding claimed_of
 read_refused bytes claims refusal e = rw (sym e) refl
 
 -- and else a list of another length
-pub wrong_count : (bytes claims : List ℕ) → read_check 1 bytes ≡ check.Clean → (length claims ≡ task_count bytes → ⊥) → Checked bytes claims WrongCount
+pub wrong_count : (bytes claims : List ℕ) → read_check 1 bytes ≡ Ok tt → (length claims ≡ task_count bytes → ⊥) → Checked bytes claims WrongCount
 unfolding claimed_of
 wrong_count bytes claims clean other = sym (rw (clean, ne_eqb (length claims) (task_count bytes) other))
 
 -- and else it is as the claims compare
-pub compared : (bytes claims : List ℕ) → read_check 1 bytes ≡ check.Clean → length claims ≡ task_count bytes →
+pub compared : (bytes claims : List ℕ) → read_check 1 bytes ≡ Ok tt → length claims ≡ task_count bytes →
     claimed_of bytes claims ≡ compared_of (passes_at (table_of bytes) claims) (task_count bytes)
 unfolding claimed_of
 compared bytes claims clean counted = rw (clean, eq-eqb (length claims) (task_count bytes) counted)

@@ -1,14 +1,12 @@
 -- What is said of a list of claims, for any bytes and any list of words (SPECIFICATION 13.7; document 02, L7).
 -- Assumes nothing.
-use Rattle.std.specs.Prelude.{ℕ, ◌-◌, ◌≡◌, Bool, true, false, List, eqb, leb, length}
+use Rattle.std.specs.Prelude.{ℕ, ◌-◌, ◌≡◌, Bool, true, false, List, eqb, leb, length, Ok, Err}
 use Rattle.model.specs.Choice.{pick, both}
 use Rattle.model.specs.Lists.{word_of}
 use Rattle.model.specs.Search.{first_of}
 use Rattle.model.specs.Tables.{Table, Load, task_of, loads_of}
-use Rattle.tables.specs.declared.Check.{Check}
-use Rattle.tables.specs.declared.Check.TheVariants as check
 use Rattle.tables.specs.Layout.{task_count, table_of}
-use Rattle.tables.specs.Refusals.{at}
+use Rattle.tables.specs.Refusals.{Check, at}
 use Rattle.tables.specs.Checks.{read_check}
 use Rattle.equation.specs.Demand.{demand}
 use Rattle.response.specs.Analysis.{base_of}
@@ -43,8 +41,8 @@ compared_of passes n = first_of is_pass Pass (fails_at passes) n
 
 -- "Refusals 1 to 7 come first; then a claim list with fewer or more words than tasks is refused with 10, place 0."
 abbrev pub claimed_for : Check → Bool → Claimed → Claimed
-claimed_for (check.Refused refusal) counted compared = Refused refusal
-claimed_for check.Clean counted compared = pick counted compared WrongCount
+claimed_for (Err refusal) counted compared = Refused refusal
+claimed_for (Ok _) counted compared = pick counted compared WrongCount
 
 unfoldable pub claimed_of : List ℕ → List ℕ → Claimed
 claimed_of bytes claims =

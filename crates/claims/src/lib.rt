@@ -1,9 +1,8 @@
 // Checks claimed response times (SPECIFICATION 13.7; document 02, L7): each claim is looked at once, with one demand and no iteration.
 #![tactic(auto)]
 
-ghost use Rattle.std.specs.Prelude.{◌≡◌, ◌-◌, ◌≤◌, ◌<◌, length};
+ghost use Rattle.std.specs.Prelude.{◌≡◌, ◌-◌, ◌≤◌, ◌<◌, length, Ok};
 ghost use Rattle.model.specs.Lists.{sum_of};
-ghost use Rattle.tables.specs.declared.Check.TheVariants.{Clean};
 ghost use Rattle.tables.specs.Layout.{task_count};
 ghost use Rattle.tables.specs.Checks.{head_check};
 ghost use Rattle.records.specs.Columns.{record_columns, row_columns, Lent, TableHeld};
@@ -23,7 +22,7 @@ use reading::{
 };
 use response::find_blocking;
 use tables::fields::count;
-use tables::{Check, ONE_PERIOD, Refusal, TASK_COUNT_AT};
+use tables::{ONE_PERIOD, Refusal, TASK_COUNT_AT};
 
 // What is said of a list of claims.
 #[derive(Clone, Copy)]
@@ -42,7 +41,7 @@ pub fn check_claims(table: &[u8], claims: &[u32]) -> Claimed
     ensures { Checked table.now claims.now result }
 {
     let head = tables::head::check(table);
-    if let Check::Refused(refusal) = head {
+    if let Err(refusal) = head {
         return Claimed::Refused(refusal);
     }
     if is_large(table) {
@@ -53,7 +52,7 @@ pub fn check_claims(table: &[u8], claims: &[u32]) -> Claimed
 
 // Checks the claims for a table with a right head, of at most 32 tasks: the room that versions 1 and 2 need is all that they are given.
 fn check_small(table: &[u8], claims: &[u32]) -> Claimed
-    requires { (head_check table.now ≡ Clean) × (task_count table.now ≤ 32) }
+    requires { (head_check table.now ≡ Ok tt) × (task_count table.now ≤ 32) }
     ensures { Checked table.now claims.now result }
 {
     let mut bytes = [0u8; SMALL_BYTES];
@@ -65,7 +64,7 @@ fn check_small(table: &[u8], claims: &[u32]) -> Claimed
 
 // The same for the 200 tasks that version 3 may have.
 fn check_large(table: &[u8], claims: &[u32]) -> Claimed
-    requires { (head_check table.now ≡ Clean) × (task_count table.now ≤ 200) }
+    requires { (head_check table.now ≡ Ok tt) × (task_count table.now ≤ 200) }
     ensures { Checked table.now claims.now result }
 {
     let mut bytes = [0u8; LARGE_BYTES];
@@ -83,12 +82,12 @@ fn check_in(
     held: &mut [u32],
     claims: &[u32],
 ) -> Claimed
-    requires table_value { head_check table.now ≡ Clean }
+    requires table_value { head_check table.now ≡ Ok tt }
     requires lent { Lent table.now room bytes.old words.old × Zeros held.old (task_count table.now) }
     ensures { Checked table.now claims.now result }
 {
     let found = reading::read(table, ONE_PERIOD, room, bytes, words);
-    if let Check::Refused(refusal) = found {
+    if let Err(refusal) = found {
         return Claimed::Refused(refusal);
     }
     let n = count(table[TASK_COUNT_AT]);

@@ -1,5 +1,6 @@
 -- What is claimed of the engine for the bytes of any table: its refusals, its ticks, and the equation's answers.
 -- Assumes nothing.
+use Rattle.std.specs.Prelude.{Ok, Err}
 use Prim.Native.Nat.{ℕ, zero, suc, ◌-◌, ◌/◌, ◌%◌, ◌≤◌, ◌<◌}
 use native.Mathlib.Decide.{dec_lt}
 use native.Mathlib.Omega.{arith}
@@ -22,11 +23,9 @@ use Rattle.model.proofs.Filling.{filled_same, filled_word}
 use Rattle.model.proofs.First.{first_same}
 use Rattle.tables.specs.declared.Refusal.{Refusal}
 use Rattle.tables.specs.declared.Refusal.TheVariants.{NotPlayable}
-use Rattle.tables.specs.declared.Check.{Check}
-use Rattle.tables.specs.declared.Check.TheVariants as check
 use Rattle.tables.specs.Fields.{task_count_field, latest_field, priority_field}
 use Rattle.tables.specs.Layout.{task_count, row_count, tasks_of, table_of, priority_in, latest_in}
-use Rattle.tables.specs.Refusals.{at, is_clean}
+use Rattle.tables.specs.Refusals.{Check, at, is_clean}
 use Rattle.tables.specs.Checks.{room_check, table_check, table_check_spanning}
 use Rattle.tables.specs.Meaning.{TableRight, RoomFor}
 use Rattle.tables.proofs.LayoutLaws.{layout_sound, task_is, priority_at, tasks_count}
@@ -112,72 +111,72 @@ module _ (bytes : List ℕ) where
 
 module _ (bytes : List ℕ) (room : ℕ) where
   -- a clean check does not refuse
-  clean_passes : (r : Refusal) → play_check bytes room ≡ check.Clean → ¬ (play_check bytes room ≡ check.Refused r)
+  clean_passes : (r : Refusal) → play_check bytes room ≡ Ok tt → ¬ (play_check bytes room ≡ Err r)
   clean_passes r p q = clash (is_clean (play_check bytes room)) (ap is_clean p) (ap is_clean q)
 
   -- a refusal is given only where it is deserved
-  play_deserved : (r : Refusal) → play_check bytes room ≡ check.Refused r → PlayDeserved bytes room r
+  play_deserved : (r : Refusal) → play_check bytes room ≡ Err r → PlayDeserved bytes room r
   play_deserved r given = go (table_check bytes room room) refl
     where
       go : (c : Check) → table_check bytes room room ≡ c → PlayDeserved bytes room r
-      go (check.Refused s) e =
+      go (Err s) e =
           inl (table_deserved 1 bytes room room r (e ∙ sym (table_decides bytes room s e) ∙ given))
-      go check.Clean e =
+      go (Ok _) e =
           elim (bool? (is_plain bytes)) [
             | inl p ↦ absurd (clean_passes r (plain_clean bytes room e p) given)
             | inr p ↦
                 let right = table_right 1 bytes room room e in
-                let same : check.Refused NotPlayable ≡ check.Refused r = sym (not_plain_law bytes room e p) ∙ given in
+                let same : Err NotPlayable ≡ Err r = sym (not_plain_law bytes room e p) ∙ given in
                 inr (cc, record { right = right.0; room = right.1; not_plain = λ plain. clash (is_plain bytes) (plain_holds bytes plain) p })
           ]
 
   -- and one that is deserved is given
-  play_gives : (r : Refusal) → PlayDeserved bytes room r → play_check bytes room ≡ check.Refused r
+  play_gives : (r : Refusal) → PlayDeserved bytes room r → play_check bytes room ≡ Err r
   play_gives r (inl d) = table_decides bytes room r (table_gives 1 bytes room room r d)
   play_gives r (inr d) =
       elim (bool? (is_plain bytes)) [
         | inl p ↦ absurd (d.1.not_plain (plain_means bytes d.1.right p))
         | inr p ↦
-            not_plain_law bytes room (table_clean 1 bytes room room d.1.right d.1.room) p ∙ ap check.Refused (sym d.0)
+            not_plain_law bytes room (table_clean 1 bytes room room d.1.right d.1.room) p ∙ ap Err (sym d.0)
       ]
 
   -- what is played breaks no rule, and is plain
-  play_right : play_check bytes room ≡ check.Clean → TableRight bytes × RoomFor bytes room room × Plain bytes
+  play_right : play_check bytes room ≡ Ok tt → TableRight bytes × RoomFor bytes room room × Plain bytes
   play_right accepted = go (table_check bytes room room) refl
     where
       go : (c : Check) → table_check bytes room room ≡ c → TableRight bytes × RoomFor bytes room room × Plain bytes
-      go (check.Refused s) e = absurd (clean_passes s accepted (table_decides bytes room s e))
-      go check.Clean e =
+      go (Err s) e = absurd (clean_passes s accepted (table_decides bytes room s e))
+      go (Ok _) e =
           elim (bool? (is_plain bytes)) [
             | inl p ↦ let right = table_right 1 bytes room room e in (right.0, right.1, plain_means bytes right.0 p)
             | inr p ↦ absurd (clean_passes NotPlayable accepted (not_plain_law bytes room e p))
           ]
 
   -- and such a table is played
-  play_clean : TableRight bytes → RoomFor bytes room room → Plain bytes → play_check bytes room ≡ check.Clean
+  play_clean : TableRight bytes → RoomFor bytes room room → Plain bytes → play_check bytes room ≡ Ok tt
   play_clean right enough plain = plain_clean bytes room (table_clean 1 bytes room room right enough) (plain_holds bytes plain)
 
   -- a verdict that refuses is that of the check
-  play_refused : (r : Refusal) → verdict.Refused r ≡ play_verdict bytes room → play_check bytes room ≡ check.Refused r
+  play_refused : (r : Refusal) → verdict.Refused r ≡ play_verdict bytes room → play_check bytes room ≡ Err r
   unfolding play_verdict
   play_refused r e =
       refused_by (play_check bytes room) (result_of (engine_answer (tasks_of bytes)) (task_count bytes)) r
       (result_cases (engine_answer (tasks_of bytes)) (task_count bytes)) e
 
-  play_given : (r : Refusal) → play_check bytes room ≡ check.Refused r → play_verdict bytes room ≡ verdict.Refused r
+  play_given : (r : Refusal) → play_check bytes room ≡ Err r → play_verdict bytes room ≡ verdict.Refused r
   unfolding play_verdict
   play_given r e = rw e
 
   -- where no verdict refuses, the check is clean
-  play_accepted : ((r : Refusal) → ¬ (play_verdict bytes room ≡ verdict.Refused r)) → play_check bytes room ≡ check.Clean
+  play_accepted : ((r : Refusal) → ¬ (play_verdict bytes room ≡ verdict.Refused r)) → play_check bytes room ≡ Ok tt
   play_accepted never = go (play_check bytes room) refl
     where
-      go : (c : Check) → play_check bytes room ≡ c → play_check bytes room ≡ check.Clean
-      go check.Clean e = e
-      go (check.Refused r) e = absurd (never r (play_given r e))
+      go : (c : Check) → play_check bytes room ≡ c → play_check bytes room ≡ Ok tt
+      go (Ok _) e = e
+      go (Err r) e = absurd (never r (play_given r e))
 
 -- a refusal leaves the slice as it was
-words_kept : (bytes answers : List ℕ) (r : Refusal) → play_check bytes (length answers) ≡ check.Refused r → play_words bytes answers ≡ answers
+words_kept : (bytes answers : List ℕ) (r : Refusal) → play_check bytes (length answers) ≡ Err r → play_words bytes answers ≡ answers
 unfolding play_words
 words_kept bytes answers r e = rw e
 
@@ -294,14 +293,14 @@ plays_as_analysis start lent result v left o p enough never =
     answers = lent.answers
 
     go : (c : Check) → play_check bytes (length answers) ≡ c → (v ≡ result.verdict) × (left ≡ result.answers)
-    go check.Clean e =
+    go (Ok _) e =
         let right = play_right bytes (length answers) e in
         let accepted : Accepted lent = record { right = right.0; room = record { answers_long = right.1.answers_long; rounds_long = enough } } in
         let equal = plays_equation bytes answers left v o right.0 right.1 right.2 in (
           equal.result_is ∙ sym (result_is_law start lent result p accepted),
           equal.answers_are ∙ sym (answers_filled start lent result p accepted),
         )
-    go (check.Refused r) e =
+    go (Err r) e =
         elim (play_deserved bytes (length answers) r e) [
           | inl d ↦
               let refused =
@@ -324,14 +323,14 @@ unfolding play_verdict
 play_place bytes answers = go (play_check bytes answers) refl
   where
     go : (c : Check) → play_check bytes answers ≡ c → verdict_place (verdict_for c (result_of (engine_answer (tasks_of bytes)) (task_count bytes))) < 65536
-    go check.Clean e =
+    go (Ok _) e =
         omega (
           arith,
           result_place (engine_answer (tasks_of bytes)) (task_count bytes),
           few bytes (play_right bytes answers e).0,
           tasks_count bytes,
         )
-    go (check.Refused r) e =
+    go (Err r) e =
         elim (play_deserved bytes answers r e) [
           | inl d ↦ refusal_place 1 bytes answers answers r d
           | inr d ↦ rw d.0 (omega arith)

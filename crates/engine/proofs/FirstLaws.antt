@@ -1,11 +1,11 @@
 -- The engine needs the first 4,590 bytes only: a longer table is refused for its head.
 -- Assumes nothing.
+use Rattle.std.specs.Prelude.{Err}
 use Prim.Native.Nat.{ℕ}
 use mathlib.Core.Path.{◌≡◌, refl, sym}
 use mathlib.Core.List.{List}
 use lib.ListN.{length}
 use Rattle.tables.specs.declared.Refusal.{Refusal}
-use Rattle.tables.specs.declared.Check.TheVariants as check
 use Rattle.tables.specs.Refusals.{first_in, or_else}
 use Rattle.tables.specs.Checks.{head_check}
 use Rattle.tables.proofs.OrderLaws.{head_decides, read_decides}
@@ -14,8 +14,8 @@ use Rattle.answering.specs.declared.Verdict.TheVariants.{Refused}
 use Rattle.engine.specs.Outcome.{play_check, play_verdict, play_words}
 use Rattle.engine.specs.Statements.{PlayOfFirstBytes}
 
-module _ (bytes : List ℕ) (refusal : Refusal) (e : head_check bytes ≡ check.Refused refusal) where
-  refused : (answers : ℕ) → play_check bytes answers ≡ check.Refused refusal
+module _ (bytes : List ℕ) (refusal : Refusal) (e : head_check bytes ≡ Err refusal) where
+  refused : (answers : ℕ) → play_check bytes answers ≡ Err refusal
   unfolding play_check first_in or_else
   refused answers = rw (read_decides 1 bytes answers answers refusal (head_decides 1 bytes refusal (sym e))) refl
 

@@ -1,5 +1,6 @@
 -- Which outcome each check of the play leads to, and what it asks of the columns.
 -- Assumes nothing.
+use Rattle.std.specs.Prelude.{Ok, Err}
 use Prim.Native.Nat.{ℕ, ◌+◌, ◌-◌, ◌≤◌, ◌<◌}
 use native.Mathlib.Omega.{arith}
 use mathlib.Core.Path.{◌≡◌, refl, sym, ◌∙◌, ap, subst}
@@ -20,7 +21,6 @@ use Rattle.model.proofs.Tests.{both_fail, both_pass, either_neither}
 use Rattle.model.proofs.First.{first_none, first_on, first_stop, first_same}
 use Rattle.tables.specs.declared.Refusal.{Refusal}
 use Rattle.tables.specs.declared.Refusal.TheVariants.{NoRoom, NotPlayable}
-use Rattle.tables.specs.declared.Check.TheVariants as check
 use Rattle.tables.specs.Fields.{task_count_field, period_field, cost_field, deadline_field}
 use Rattle.tables.specs.Layout.{layout_of, record_start, task_count, row_count, tasks_of, priority_in, latest_in}
 use Rattle.tables.specs.Refusals.{at, first_in, or_else, unless}
@@ -42,27 +42,27 @@ use Rattle.engine.specs.Held.{NumbersHeld}
 
 module _ (bytes : List ℕ) (room : ℕ) where
   -- a refusal of the analysis is the engine's
-  pub table_decides : (r : Refusal) → table_check bytes room room ≡ check.Refused r → play_check bytes room ≡ check.Refused r
+  pub table_decides : (r : Refusal) → table_check bytes room room ≡ Err r → play_check bytes room ≡ Err r
   unfolding play_check first_in or_else
   table_decides r e = rw e
 
-  module _ (clean : table_check bytes room room ≡ check.Clean) where
+  module _ (clean : table_check bytes room room ≡ Ok tt) where
     -- else it is refused where it is not plain, and only there
-    pub not_plain_law : is_plain bytes ≡ false → play_check bytes room ≡ check.Refused NotPlayable
+    pub not_plain_law : is_plain bytes ≡ false → play_check bytes room ≡ Err NotPlayable
     unfolding play_check first_in or_else unless
     not_plain_law e = rw (clean, e)
 
-    pub plain_clean : is_plain bytes ≡ true → play_check bytes room ≡ check.Clean
+    pub plain_clean : is_plain bytes ≡ true → play_check bytes room ≡ Ok tt
     unfolding play_check first_in or_else unless
     plain_clean e = rw (clean, e)
 
 module _ (bytes answers : List ℕ) where
   -- a refusal leaves the slice as it was
-  refused : (r : Refusal) → play_check bytes (length answers) ≡ check.Refused r → Played bytes answers (verdict.Refused r) answers
+  refused : (r : Refusal) → play_check bytes (length answers) ≡ Err r → Played bytes answers (verdict.Refused r) answers
   unfolding play_verdict play_words
   refused r e = record { verdict_is = rw e; answers_are = rw e }
 
-  pub read_refused : (r : Refusal) → check.Refused r ≡ read_check 1 bytes → Played bytes answers (verdict.Refused r) answers
+  pub read_refused : (r : Refusal) → Err r ≡ read_check 1 bytes → Played bytes answers (verdict.Refused r) answers
   read_refused r e = refused r (table_decides bytes (length answers) r (read_decides 1 bytes (length answers) (length answers) r e))
 
 -- four of the columns that hold a table
@@ -155,7 +155,7 @@ module _ (bytes periods costs deadlines latest : List ℕ) (held : NumbersHeld b
           (room_decides 1 bytes (length answers) (length answers) held.clean n counted (rw (lt-leb n (length answers) h))))
 
       module _ (room : n ≤ length answers) where
-        clean : table_check bytes (length answers) (length answers) ≡ check.Clean
+        clean : table_check bytes (length answers) (length answers) ≡ Ok tt
         clean = all_pass 1 bytes (length answers) (length answers) held.clean n counted room room
 
         -- rows cannot be played, nor can delays

@@ -5,9 +5,8 @@ use Rattle.model.specs.Choice.{both}
 use Rattle.model.specs.Lists.{filled, largest_to}
 use Rattle.model.specs.Search.{any}
 use Rattle.tables.specs.declared.Refusal.TheVariants.{NotPlayable}
-use Rattle.tables.specs.declared.Check.{Check}
 use Rattle.tables.specs.Layout.{task_count, row_count, tasks_of, priority_in, latest_in}
-use Rattle.tables.specs.Refusals.{unless, first_in}
+use Rattle.tables.specs.Refusals.{Check, unless, first_in}
 use Rattle.tables.specs.Checks.{table_check}
 use Rattle.answering.specs.declared.Verdict.{Verdict}
 use Rattle.answering.specs.Results.{result_of}

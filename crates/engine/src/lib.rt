@@ -1,13 +1,12 @@
 // Plays a table tick by tick (SPECIFICATION 9; document 02, L1, L6 and L9): the answers and the verdict of the analysis, found another way.
 #![tactic(auto)]
 
-ghost use Rattle.std.specs.Prelude.{◌≡◌, ◌+◌, ◌-◌, ◌*◌, ◌≤◌, length};
+ghost use Rattle.std.specs.Prelude.{◌≡◌, ◌+◌, ◌-◌, ◌*◌, ◌≤◌, length, Ok};
 ghost use Rattle.model.specs.Lists.{word_of};
 ghost use Rattle.model.specs.Search.{any};
 ghost use Rattle.tables.specs.Layout.{task_count, priority_in};
 ghost use Rattle.tables.specs.Meaning.{TableRight};
 ghost use Rattle.tables.specs.Checks.{head_check};
-ghost use Rattle.tables.specs.declared.Check.TheVariants.{Clean};
 ghost use Rattle.records.specs.Columns.{part, Lent};
 ghost use Rattle.blocking.specs.Sweep.{Zeros};
 ghost use Rattle.answering.specs.Results.{result_of};
@@ -20,7 +19,7 @@ use reading::{
 };
 use response::Verdict;
 use tables::fields::count;
-use tables::{Check, HEAD_SIZE, ONE_PERIOD, ROW_COUNT_AT, Refusal, TASK_COUNT_AT, VERSION_AT};
+use tables::{HEAD_SIZE, ONE_PERIOD, ROW_COUNT_AT, Refusal, TASK_COUNT_AT, VERSION_AT};
 use ticking::{largest, play_all};
 
 // Any bytes and any slice get a verdict. A refusal changes no word; otherwise words 0 to n - 1 are written, and later words stay.
@@ -28,7 +27,7 @@ pub fn play(table: &[u8], answers: &mut [u32]) -> Verdict
     ensures { Played table.now answers.old result answers.new }
 {
     let head = tables::head::check(table);
-    if let Check::Refused(refusal) = head {
+    if let Err(refusal) = head {
         return Verdict::Refused(refusal);
     }
     if is_large(table) {
@@ -39,7 +38,7 @@ pub fn play(table: &[u8], answers: &mut [u32]) -> Verdict
 
 // Plays a table with a right head, of at most 32 tasks: the room that versions 1 and 2 need is all that they are given.
 fn play_small(table: &[u8], answers: &mut [u32]) -> Verdict
-    requires { (head_check table.now ≡ Clean) × (task_count table.now ≤ 32) }
+    requires { (head_check table.now ≡ Ok tt) × (task_count table.now ≤ 32) }
     ensures { Played table.now answers.old result answers.new }
 {
     let mut bytes = [0u8; SMALL_BYTES];
@@ -54,7 +53,7 @@ fn play_small(table: &[u8], answers: &mut [u32]) -> Verdict
 
 // The same for the 200 tasks that version 3 may have.
 fn play_large(table: &[u8], answers: &mut [u32]) -> Verdict
-    requires { (head_check table.now ≡ Clean) × (task_count table.now ≤ 200) }
+    requires { (head_check table.now ≡ Ok tt) × (task_count table.now ≤ 200) }
     ensures { Played table.now answers.old result answers.new }
 {
     let mut bytes = [0u8; LARGE_BYTES];
@@ -76,13 +75,13 @@ fn play_in(
     due: &mut [u32],
     answers: &mut [u32],
 ) -> Verdict
-    requires table_value { head_check table.now ≡ Clean }
+    requires table_value { head_check table.now ≡ Ok tt }
     requires lent { Lent table.now room bytes.old words.old }
     requires zeros { Zeros left.old (task_count table.now) × Zeros due.old (task_count table.now) }
     ensures { Played table.now answers.old result answers.new }
 {
     let found = reading::read(table, ONE_PERIOD, room, bytes, words);
-    if let Check::Refused(refusal) = found {
+    if let Err(refusal) = found {
         return Verdict::Refused(refusal);
     }
     play_columns(table, room, words, left, due, answers)

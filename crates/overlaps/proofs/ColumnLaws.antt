@@ -1,5 +1,6 @@
 -- Which outcome each check leads to, and that the columns which hold a table give the words of the table that the bytes mean.
 -- Assumes nothing.
+use Rattle.std.specs.Prelude.{Ok, Err}
 use Prim.Native.Nat.{ℕ, ◌≤◌, ◌<◌}
 use native.Mathlib.Omega.{arith}
 use mathlib.Core.Path.{◌≡◌, ◌∙◌, ap}
@@ -15,7 +16,6 @@ use Rattle.model.proofs.First.{first_same}
 use Rattle.model.proofs.Lists.{largest_same}
 use Rattle.tables.specs.declared.Refusal.{Refusal}
 use Rattle.tables.specs.declared.Refusal.TheVariants.{NoRoom}
-use Rattle.tables.specs.declared.Check.TheVariants as check
 use Rattle.tables.specs.Layout.{task_count, table_of, latest_in}
 use Rattle.tables.specs.Refusals.{at}
 use Rattle.tables.specs.Checks.{read_check}
@@ -32,22 +32,22 @@ use Rattle.overlaps.specs.Columns.{studied_in, longest_in, tried_in, AllFound}
 
 module _ (bytes answers counts : List ℕ) where
   -- a refusal leaves both slices as they were
-  refused : (r : Refusal) → past_check bytes (length answers) (length counts) ≡ check.Refused r →
+  refused : (r : Refusal) → past_check bytes (length answers) (length counts) ≡ Err r →
       PastOutcome (lending bytes answers counts) (leaving (Refused r) answers counts)
   unfolding found_of answers_after tried_words_after
   refused r e = record { found_is = rw e; answers_are = rw e; tried_are = rw e }
 
-  pub read_refused : (r : Refusal) → check.Refused r ≡ read_check 4 bytes →
+  pub read_refused : (r : Refusal) → Err r ≡ read_check 4 bytes →
       PastOutcome (lending bytes answers counts) (leaving (Refused r) answers counts)
   read_refused r e = refused r (read_decides 4 bytes (length answers) (length counts) r e)
 
-  module _ (clean : read_check 4 bytes ≡ check.Clean) (n : ℕ) (counted : n ≡ task_count bytes) where
+  module _ (clean : read_check 4 bytes ≡ Ok tt) (n : ℕ) (counted : n ≡ task_count bytes) where
     pub no_room : both (leb n (length answers)) (leb n (length counts)) ≡ false →
         PastOutcome (lending bytes answers counts) (leaving (Refused NoRoom) answers counts)
     no_room e = refused NoRoom (room_decides 4 bytes (length answers) (length counts) clean n counted e)
 
     module _ (room : (task_count bytes ≤ length answers) × (task_count bytes ≤ length counts)) where
-      accepted : past_check bytes (length answers) (length counts) ≡ check.Clean
+      accepted : past_check bytes (length answers) (length counts) ≡ Ok tt
       accepted = all_pass 4 bytes (length answers) (length counts) clean n counted (omega (arith, room.0)) (omega (arith, room.1))
 
       -- a delay leaves them so too
@@ -111,7 +111,7 @@ module _ {span : ℕ} (bytes : List ℕ) (records : RecordColumn → List ℕ) (
     filled_all f g words same = filled_same f g n words same ∙ ap (λ (k : ℕ). filled g k words) tasks_counted
 
     -- what is found in the columns is the outcome for the bytes
-    pub table_found : read_check 4 bytes ≡ check.Clean → is_calm bytes ≡ true → (answers counts : List ℕ) →
+    pub table_found : read_check 4 bytes ≡ Ok tt → is_calm bytes ≡ true → (answers counts : List ℕ) →
         (task_count bytes ≤ length answers) × (task_count bytes ≤ length counts) → (found : Found) (answers_left counts_left : List ℕ) →
         AllFound (decoded_from ranks records blocked) n found (slice answers answers_left) (slice counts counts_left) →
         PastOutcome (lending bytes answers counts) (leaving found answers_left counts_left)

@@ -1,11 +1,11 @@
 -- The second analysis needs the first 4,590 bytes only: a longer table is refused for its head.
 -- Assumes nothing.
+use Rattle.std.specs.Prelude.{Err}
 use Prim.Native.Nat.{ℕ}
 use mathlib.Core.Path.{◌≡◌, refl, sym}
 use mathlib.Core.List.{List}
 use lib.ListN.{length}
 use Rattle.tables.specs.declared.Refusal.{Refusal}
-use Rattle.tables.specs.declared.Check.TheVariants as check
 use Rattle.tables.specs.Checks.{head_check}
 use Rattle.tables.proofs.OrderLaws.{head_decides, read_decides}
 use Rattle.tables.proofs.FirstLaws.{kept_alike}
@@ -13,8 +13,8 @@ use Rattle.overlaps.specs.declared.Found.TheVariants.{Refused}
 use Rattle.overlaps.specs.Outcome.{past_check, found_of, answers_after, tried_words_after}
 use Rattle.overlaps.specs.Statements.{PastOfFirstBytes}
 
-module _ (bytes : List ℕ) (refusal : Refusal) (e : head_check bytes ≡ check.Refused refusal) where
-  refused : (answers tried : ℕ) → past_check bytes answers tried ≡ check.Refused refusal
+module _ (bytes : List ℕ) (refusal : Refusal) (e : head_check bytes ≡ Err refusal) where
+  refused : (answers tried : ℕ) → past_check bytes answers tried ≡ Err refusal
   refused answers tried = read_decides 4 bytes answers tried refusal (head_decides 4 bytes refusal (sym e))
 
   refused_found : (answers tried : ℕ) → found_of bytes answers tried ≡ Refused refusal

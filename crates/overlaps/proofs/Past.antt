@@ -1,5 +1,6 @@
 -- What is claimed of the second analysis for the bytes of any table.
 -- Assumes nothing.
+use Rattle.std.specs.Prelude.{Ok, Err}
 use Prim.Native.Nat.{ℕ, ◌≤◌, ◌<◌}
 use native.Mathlib.Omega.{arith}
 use mathlib.Core.Path.{◌≡◌, refl, sym, ◌∙◌, ap, subst}
@@ -15,11 +16,9 @@ use Rattle.model.proofs.First.{first_same}
 use Rattle.model.proofs.Lists.{largest_low, largest_high, get_d_filled_past, length_filled}
 use Rattle.model.proofs.Tests.{bool?, clash}
 use Rattle.tables.specs.declared.Refusal.{Refusal}
-use Rattle.tables.specs.declared.Check.{Check}
-use Rattle.tables.specs.declared.Check.TheVariants as check
 use Rattle.tables.specs.Fields.{task_count_field, cost_field, latest_field}
 use Rattle.tables.specs.Layout.{task_count, tasks_of, table_of, latest_in}
-use Rattle.tables.specs.Refusals.{at}
+use Rattle.tables.specs.Refusals.{Check, at}
 use Rattle.tables.specs.Meaning.{TableRightSpanning}
 use Rattle.tables.proofs.LayoutLaws.{layout_sound, task_is}
 use Rattle.tables.proofs.PlaceLaws.{refusal_place}
@@ -74,38 +73,38 @@ module _ (lent : Call) where
   counts = tried_of (table_of lent.bytes)
 
   -- what each check leads to
-  by_refusal : (r : Refusal) → past_check lent.bytes (length lent.answers) (length lent.tried) ≡ check.Refused r → (result : Left) →
+  by_refusal : (r : Refusal) → past_check lent.bytes (length lent.answers) (length lent.tried) ≡ Err r → (result : Left) →
       result.found ≡ Refused r → Unchanged lent result → PastOutcome lent result
   unfolding found_of answers_after tried_words_after
   by_refusal r e result f same =
       record { found_is = rw e f; answers_are = rw e same.answers_stay; tried_are = rw e same.tried_stay }
 
-  by_delay : past_check lent.bytes (length lent.answers) (length lent.tried) ≡ check.Clean → is_calm lent.bytes ≡ false → (result : Left) →
+  by_delay : past_check lent.bytes (length lent.answers) (length lent.tried) ≡ Ok tt → is_calm lent.bytes ≡ false → (result : Left) →
       result.found ≡ Delayed → Unchanged lent result → PastOutcome lent result
   unfolding found_of answers_after tried_words_after
   by_delay e p result f same =
       record { found_is = rw (e, p) f; answers_are = rw (e, p) same.answers_stay; tried_are = rw (e, p) same.tried_stay }
 
-  by_words : past_check lent.bytes (length lent.answers) (length lent.tried) ≡ check.Clean → is_calm lent.bytes ≡ true → (result : Left) →
+  by_words : past_check lent.bytes (length lent.answers) (length lent.tried) ≡ Ok tt → is_calm lent.bytes ≡ true → (result : Left) →
       result.found ≡ result_of words n → result.answers ≡ filled words n lent.answers → result.tried ≡ filled counts n lent.tried →
       PastOutcome lent result
   unfolding found_of answers_after tried_words_after
   by_words e p result f a t = record { found_is = rw (e, p) f; answers_are = rw (e, p) a; tried_are = rw (e, p) t }
 
   module _ (result : Left) (o : PastOutcome lent result) where
-    pub refused_is : (r : Refusal) → past_check lent.bytes (length lent.answers) (length lent.tried) ≡ check.Refused r →
+    pub refused_is : (r : Refusal) → past_check lent.bytes (length lent.answers) (length lent.tried) ≡ Err r →
         (result.found ≡ Refused r) × Unchanged lent result
     unfolding found_of answers_after tried_words_after
     refused_is r e =
         (rw e at o.found_is, record { answers_stay = rw e at o.answers_are; tried_stay = rw e at o.tried_are })
 
-    delayed_is : past_check lent.bytes (length lent.answers) (length lent.tried) ≡ check.Clean → is_calm lent.bytes ≡ false →
+    delayed_is : past_check lent.bytes (length lent.answers) (length lent.tried) ≡ Ok tt → is_calm lent.bytes ≡ false →
         (result.found ≡ Delayed) × Unchanged lent result
     unfolding found_of answers_after tried_words_after
     delayed_is e p =
         (rw (e, p) at o.found_is, record { answers_stay = rw (e, p) at o.answers_are; tried_stay = rw (e, p) at o.tried_are })
 
-    pub words_are : past_check lent.bytes (length lent.answers) (length lent.tried) ≡ check.Clean → is_calm lent.bytes ≡ true →
+    pub words_are : past_check lent.bytes (length lent.answers) (length lent.tried) ≡ Ok tt → is_calm lent.bytes ≡ true →
         (result.found ≡ result_of words n) × (result.answers ≡ filled words n lent.answers) × (result.tried ≡ filled counts n lent.tried)
     unfolding found_of answers_after tried_words_after
     words_are e p = (rw (e, p) at o.found_is, rw (e, p) at o.answers_are, rw (e, p) at o.tried_are)
@@ -144,10 +143,10 @@ module _ (lent : Call) where
   outcome_right result o = go (past_check lent.bytes (length lent.answers) (length lent.tried)) refl
     where
       go : (c : Check) → past_check lent.bytes (length lent.answers) (length lent.tried) ≡ c → LeftRight lent result
-      go (check.Refused r) e =
+      go (Err r) e =
           let is = refused_is result o r e in
           subst (FoundRight lent result) (sym is.0) (table_deserved 4 lent.bytes (length lent.answers) (length lent.tried) r e, is.1)
-      go check.Clean e =
+      go (Ok _) e =
           let right = table_right 4 lent.bytes (length lent.answers) (length lent.tried) e in
           let readable : Readable lent = record { right = right.0; room = right.1 } in
           elim (bool? (is_calm lent.bytes)) [

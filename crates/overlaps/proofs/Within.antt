@@ -1,5 +1,6 @@
 -- Where no deadline is past its period, the second analysis says and leaves what the first does.
 -- Assumes nothing.
+use Rattle.std.specs.Prelude.{Ok, Err}
 use Prim.Native.Nat.{ℕ, ◌≤◌, ◌<◌}
 use native.Mathlib.Omega.{arith}
 use native.Mathlib.Decide.{dec_le}
@@ -17,11 +18,9 @@ use Rattle.model.proofs.First.{first_same, first_told}
 use Rattle.model.proofs.Lists.{largest_more, largest_none}
 use Rattle.model.proofs.Tests.{eqb?, clash}
 use Rattle.tables.specs.declared.Refusal.{Refusal}
-use Rattle.tables.specs.declared.Check.{Check}
-use Rattle.tables.specs.declared.Check.TheVariants as check
 use Rattle.tables.specs.Fields.{RecordField, period_field, cost_field, deadline_field, earliest_field, latest_field, priority_field, record_order, refusal_in_record}
 use Rattle.tables.specs.Layout.{layout_of, task_count, task_at, table_of, period_in, deadline_in}
-use Rattle.tables.specs.Refusals.{at, is_clean, fields_check, first_in}
+use Rattle.tables.specs.Refusals.{Check, at, is_clean, fields_check, first_in}
 use Rattle.tables.specs.Rules.{longest_deadline, priority_fits, record_test}
 use Rattle.tables.specs.Checks.{record_check, records_check, rows_check, body_check, head_check, room_check, table_check_spanning, table_check}
 use Rattle.tables.specs.Meaning.{TableRight}
@@ -71,7 +70,7 @@ module _ (bytes : List ℕ) (within : (i : ℕ) → i < task_count bytes → dea
 
   same_records : records_check 4 bytes ≡ records_check 1 bytes
   unfolding records_check
-  same_records = first_same is_clean check.Clean (record_check 4 bytes) (record_check 1 bytes) (task_count bytes) same_record
+  same_records = first_same is_clean (Ok tt) (record_check 4 bytes) (record_check 1 bytes) (task_count bytes) same_record
 
   -- so every check is the first analysis's
   pub same_check : (answers counts : ℕ) → past_check bytes answers counts ≡ table_check bytes answers counts
@@ -165,10 +164,10 @@ module _ (start : Start) (lent : first.Call) (other : first.Left) (result : Left
   past_checked c e = same_check lent.bytes within (length lent.answers) (length lent.rounds) ∙ e
 
   -- both refuse, and leave the words as they were
-  both_refuse : (r : Refusal) → table_check lent.bytes (length lent.answers) (length lent.rounds) ≡ check.Refused r →
+  both_refuse : (r : Refusal) → table_check lent.bytes (length lent.answers) (length lent.rounds) ≡ Err r →
       SameLeft (lending lent.bytes lent.answers lent.rounds) result other
   both_refuse r e =
-      let past = refused_is (lending lent.bytes lent.answers lent.rounds) result p r (past_checked (check.Refused r) e) in
+      let past = refused_is (lending lent.bytes lent.answers lent.rounds) result p r (past_checked (Err r) e) in
       record {
         same_answers = past.1.answers_stay ∙ sym (o.answers_are ∙ answers_kept lent.bytes lent.answers lent.rounds r e);
         same_found = past.0 ∙ sym (ap as_found (o.verdict_is ∙ verdict_given lent.bytes lent.answers lent.rounds r e));
@@ -177,7 +176,7 @@ module _ (start : Start) (lent : first.Call) (other : first.Left) (result : Left
             (clash true refl
             (ap is_clean
             (sym (table_clean 4 lent.bytes (length lent.answers) (length lent.rounds) readable.right readable.room)
-            ∙ past_checked (check.Refused r) e)));
+            ∙ past_checked (Err r) e)));
       }
 
   module _ (right : TableRight lent.bytes) where
@@ -206,10 +205,10 @@ module _ (start : Start) (lent : first.Call) (other : first.Left) (result : Left
         (λ i h. same_said (answer_of table i) i (answer_small_law i h) ∙ ap (λ (w : ℕ). said_by w (at i)) (sym (word_same i h)))
 
   -- neither refuses
-  both_answer : table_check lent.bytes (length lent.answers) (length lent.rounds) ≡ check.Clean →
+  both_answer : table_check lent.bytes (length lent.answers) (length lent.rounds) ≡ Ok tt →
       SameLeft (lending lent.bytes lent.answers lent.rounds) result other
   both_answer e =
-      let past = words_are (lending lent.bytes lent.answers lent.rounds) result p (past_checked check.Clean e) (calm_holds lent.bytes calm) in
+      let past = words_are (lending lent.bytes lent.answers lent.rounds) result p (past_checked (Ok tt) e) (calm_holds lent.bytes calm) in
       let read = table_right 1 lent.bytes (length lent.answers) (length lent.rounds) e in
       let accepted : Accepted lent = record { right = read.0; room = read.1 } in
       record {
@@ -228,5 +227,5 @@ same_within_period start lent other result o p within calm =
   where
     go : (c : Check) → table_check lent.bytes (length lent.answers) (length lent.rounds) ≡ c →
         SameLeft (lending lent.bytes lent.answers lent.rounds) result other
-    go (check.Refused r) e = both_refuse start lent other result o p within calm r e
-    go check.Clean e = both_answer start lent other result o p within calm e
+    go (Err r) e = both_refuse start lent other result o p within calm r e
+    go (Ok _) e = both_answer start lent other result o p within calm e

@@ -1,15 +1,13 @@
 -- What `analyse_past_period` answers and leaves in both slices, for any bytes and slices (SPECIFICATION 13.8; document 02, L8).
 -- Assumes nothing.
-use Rattle.std.specs.Prelude.{ℕ, ◌≡◌, Bool, true, false, List, eqb, length}
+use Rattle.std.specs.Prelude.{ℕ, ◌≡◌, Bool, true, false, List, eqb, length, Ok, Err}
 use Rattle.model.specs.Choice.{pick}
 use Rattle.model.specs.Lists.{filled, largest_to}
 use Rattle.model.specs.Search.{first_of}
 use Rattle.model.specs.declared.Place.{Place}
 use Rattle.model.specs.Tables.{open_word}
-use Rattle.tables.specs.declared.Check.{Check}
-use Rattle.tables.specs.declared.Check.TheVariants as check
 use Rattle.tables.specs.Layout.{task_count, table_of, latest_in}
-use Rattle.tables.specs.Refusals.{at}
+use Rattle.tables.specs.Refusals.{Check, at}
 use Rattle.tables.specs.Checks.{table_check_spanning}
 use Rattle.overlaps.specs.declared.Found.{Found}
 use Rattle.overlaps.specs.declared.Found.TheVariants.{Refused, Delayed, Schedulable, Late, Open}
@@ -43,8 +41,8 @@ is_calm bytes = eqb (largest_to (latest_in bytes) (task_count bytes)) 0
 
 -- "Any nonzero delay is refused with 11, after 8, place 0"
 abbrev pub found_for : Check → Bool → Found → Found
-found_for (check.Refused refusal) calm result = Refused refusal
-found_for check.Clean calm result = pick calm result Delayed
+found_for (Err refusal) calm result = Refused refusal
+found_for (Ok _) calm result = pick calm result Delayed
 
 unfoldable pub found_of : List ℕ → ℕ → ℕ → Found
 found_of bytes answers tried =
@@ -52,8 +50,8 @@ found_of bytes answers tried =
 
 -- "no word changed" where it refuses; else words 0 to n − 1 are written, and later words stay
 abbrev pub words_after : Check → Bool → List ℕ → List ℕ → List ℕ
-words_after (check.Refused refusal) calm written old = old
-words_after check.Clean calm written old = pick calm written old
+words_after (Err refusal) calm written old = old
+words_after (Ok _) calm written old = pick calm written old
 
 unfoldable pub answers_after : List ℕ → List ℕ → List ℕ → List ℕ
 answers_after bytes answers tried =

@@ -1,9 +1,8 @@
 // The second analysis (SPECIFICATION 13.8; document 02, L8): deadlines may be past the period, so that jobs of one task may overlap.
 #![tactic(auto)]
 
-ghost use Rattle.std.specs.Prelude.{◌≡◌, true, ◌≤◌, ◌<◌, length};
+ghost use Rattle.std.specs.Prelude.{◌≡◌, true, ◌≤◌, ◌<◌, length, Ok};
 ghost use Rattle.model.specs.Choice.{pick};
-ghost use Rattle.tables.specs.declared.Check.TheVariants.{Clean};
 ghost use Rattle.tables.specs.Layout.{task_count};
 ghost use Rattle.tables.specs.Checks.{head_check};
 ghost use Rattle.records.specs.Columns.{record_columns, row_columns, Lent, TableHeld};
@@ -23,7 +22,7 @@ use reading::{
 };
 use response::{find_blocking, has_room};
 use tables::fields::count;
-use tables::{Check, FOUR_PERIODS, Refusal, TASK_COUNT_AT};
+use tables::{FOUR_PERIODS, Refusal, TASK_COUNT_AT};
 
 // What is said of a table.
 #[derive(Clone, Copy)]
@@ -44,7 +43,7 @@ pub fn analyse_past_period(table: &[u8], answers: &mut [u32], tried: &mut [u32])
     ensures { PastOutcome (lending table.now answers.old tried.old) (leaving result answers.new tried.new) }
 {
     let head = tables::head::check(table);
-    if let Check::Refused(refusal) = head {
+    if let Err(refusal) = head {
         return Found::Refused(refusal);
     }
     if is_large(table) {
@@ -55,7 +54,7 @@ pub fn analyse_past_period(table: &[u8], answers: &mut [u32], tried: &mut [u32])
 
 // Analyses a table with a right head, of at most 32 tasks: the room that versions 1 and 2 need is all that they are given.
 fn analyse_small(table: &[u8], answers: &mut [u32], tried: &mut [u32]) -> Found
-    requires { (head_check table.now ≡ Clean) × (task_count table.now ≤ 32) }
+    requires { (head_check table.now ≡ Ok tt) × (task_count table.now ≤ 32) }
     ensures { PastOutcome (lending table.now answers.old tried.old) (leaving result answers.new tried.new) }
 {
     let mut bytes = [0u8; SMALL_BYTES];
@@ -70,7 +69,7 @@ fn analyse_small(table: &[u8], answers: &mut [u32], tried: &mut [u32]) -> Found
 
 // The same for the 200 tasks that version 3 may have.
 fn analyse_large(table: &[u8], answers: &mut [u32], tried: &mut [u32]) -> Found
-    requires { (head_check table.now ≡ Clean) × (task_count table.now ≤ 200) }
+    requires { (head_check table.now ≡ Ok tt) × (task_count table.now ≤ 200) }
     ensures { PastOutcome (lending table.now answers.old tried.old) (leaving result answers.new tried.new) }
 {
     let mut bytes = [0u8; LARGE_BYTES];
@@ -93,13 +92,13 @@ fn analyse_in(
     answers: &mut [u32],
     tried: &mut [u32],
 ) -> Found
-    requires table_value { head_check table.now ≡ Clean }
+    requires table_value { head_check table.now ≡ Ok tt }
     requires lent { Lent table.now room bytes.old words.old }
     requires zeros { Zeros held.old (task_count table.now) × (task_count table.now < length marks.old) }
     ensures { PastOutcome (lending table.now answers.old tried.old) (leaving result answers.new tried.new) }
 {
     let checked = reading::read(table, FOUR_PERIODS, room, bytes, words);
-    if let Check::Refused(refusal) = checked {
+    if let Err(refusal) = checked {
         return Found::Refused(refusal);
     }
     let n = count(table[TASK_COUNT_AT]);

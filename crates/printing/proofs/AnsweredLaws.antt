@@ -1,10 +1,10 @@
 -- The text of what a call of the analysis said and left is the text of what it says of those bytes, and the first 4,590 of them decide it.
 -- Assumes nothing.
+use Rattle.std.specs.Prelude.{Err}
 use Prim.Native.Nat.{ℕ}
 use mathlib.Core.Path.{◌≡◌, refl, ◌∙◌, ap}
 use mathlib.Core.List.{List}
 use Rattle.tables.specs.declared.Refusal.{Refusal}
-use Rattle.tables.specs.declared.Check.TheVariants as check
 use Rattle.tables.specs.Checks.{head_check}
 use Rattle.tables.proofs.FirstLaws.{kept_alike}
 use Rattle.equation.specs.declared.Start.{Start}
@@ -22,7 +22,7 @@ text_of_outcome start bytes result o =
     ∙ ap (λ (a : List ℕ). text_of bytes (verdict_of bytes 200 200) a result.rounds) o.answers_are
     ∙ ap (text_of bytes (verdict_of bytes 200 200) (answers_after bytes zeros zeros)) o.rounds_are
 
-refused_text : (start : Start) (bytes : List ℕ) (refusal : Refusal) → head_check bytes ≡ check.Refused refusal →
+refused_text : (start : Start) (bytes : List ℕ) (refusal : Refusal) → head_check bytes ≡ Err refusal →
     answer_text start bytes ≡ refused_line refusal
 unfolding answer_text
 refused_text start bytes refusal e = rw (refused_verdict bytes refusal e 200 200) refl

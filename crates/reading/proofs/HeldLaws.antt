@@ -1,5 +1,6 @@
 -- What an entry needs to read a table, and what it then has.
 -- Assumes nothing.
+use Rattle.std.specs.Prelude.{Ok}
 use Prim.Native.Nat.{ℕ, ◌+◌, ◌-◌, ◌*◌, ◌≤◌}
 use native.Mathlib.Omega.{arith}
 use mathlib.Core.Path.{◌≡◌, refl, sym, ◌∙◌, ap, subst}
@@ -8,8 +9,7 @@ use mathlib.Core.List.{List}
 use lib.Dec.{ltb}
 use borrow.Author.Tests.{ltb-false}
 use Rattle.model.specs.Lists.{filled}
-use Rattle.tables.specs.declared.Check.{Check}
-use Rattle.tables.specs.declared.Check.TheVariants.{Clean}
+use Rattle.tables.specs.Refusals.{Check}
 use Rattle.tables.specs.Fields.{task_count_field, row_count_field}
 use Rattle.tables.specs.Layout.{layout_of, task_count, row_count}
 use Rattle.tables.specs.Meaning.{TableRightSpanning}
@@ -23,7 +23,7 @@ use Rattle.reading.proofs.StageLaws.{Left, column_room}
 
 -- An entry lends columns for as many tasks as the version allows: 32 where `is_large` says no, and else 200. With them it may read any
 -- table with a right head, and what it reads and does not refuse is then held.
-module _ (table : List ℕ) (clean : head_check table ≡ Clean) where
+module _ (table : List ℕ) (clean : head_check table ≡ Ok tt) where
   pub small_fits : {large : Bool} → large ≡ ltb 32 (layout_of table).most → large ≡ false → task_count table ≤ 32
   small_fits is small =
       omega (arith, ((head_right table clean).counts task_count_field).high, ltb-false 32 (layout_of table).most (sym is ∙ small))
@@ -35,7 +35,7 @@ module _ (table : List ℕ) (clean : head_check table ≡ Clean) where
 
 module _ (span : ℕ) (table : List ℕ) (room : ℕ) (bytes words : List ℕ) (lent : Lent table room bytes words) where
   pub table_held : (found : Check) {records : RecordColumn → List ℕ} {rows : RowColumn → List ℕ} →
-      Left span table found (record_columns room bytes words) records (row_columns room bytes words) rows → found ≡ Clean → TableHeld span table records rows
+      Left span table found (record_columns room bytes words) records (row_columns room bytes words) rows → found ≡ Ok tt → TableHeld span table records rows
   table_held found {records} {rows} left none =
       let clean = sym left.0 ∙ none in
       let r = read_clean span table clean in

@@ -1,5 +1,6 @@
 -- One turn of the reader of rows: what is known before it, and the two ways in which it goes on.
 -- Assumes nothing.
+use Rattle.std.specs.Prelude.{Ok}
 use Prim.Native.Nat.{ℕ, zero, suc, ◌+◌, ◌-◌, ◌*◌, ◌≤◌, ◌<◌}
 use native.Mathlib.Omega.{arith}
 use native.Mathlib.Numerals.{add-one}
@@ -17,11 +18,9 @@ use Rattle.model.specs.Search.{first_of}
 use Rattle.model.proofs.Tests.{ltb?}
 use Rattle.model.proofs.First as first_laws
 use Rattle.tables.specs.declared.layout.Layout.{Layout}
-use Rattle.tables.specs.declared.Check.{Check}
-use Rattle.tables.specs.declared.Check.TheVariants.{Clean}
 use Rattle.tables.specs.declared.Refusal.{Refusal}
 use Rattle.tables.specs.Layout.{layout_of, task_count, row_count, record_start, row_start, row_from, row_at, cost_in, place_in, semaphore_in}
-use Rattle.tables.specs.Refusals.{is_clean, unless, or_else, first_in, fields_check}
+use Rattle.tables.specs.Refusals.{Check, is_clean, unless, or_else, first_in, fields_check}
 use Rattle.tables.specs.Fields.{row_order, row_refusal}
 use Rattle.tables.specs.Rules.{between, row_in_order, row_after, row_test}
 use Rattle.tables.specs.Checks.{row_check, rows_check, rows_read}
@@ -48,7 +47,7 @@ pub record Scanning (bytes : List ℕ) (n m : ℕ) (costs : List ℕ) (k start b
   pub held : Holds costs n (cost_in bytes)
   pub within : k ≤ m
   pub here : start ≡ row_start (layout_of bytes) n k
-  pub clean : first_of is_clean Clean (row_check bytes) k ≡ Clean
+  pub clean : first_of is_clean (Ok tt) (row_check bytes) k ≡ Ok tt
   pub last : before ≡ key_before bytes k
   pub byte : (j : ℕ) → suc j ≡ k → semaphore_in bytes j < 256
 
@@ -111,7 +110,7 @@ module _ (bytes : List ℕ) (n m : ℕ) (costs : List ℕ) where
         held = held;
         within = omega arith;
         here = ap (λ (l : Layout). record_start l n) h.decided ∙ omega arith;
-        clean = first_laws.first_none is_clean Clean refl (row_check bytes);
+        clean = first_laws.first_none is_clean (Ok tt) refl (row_check bytes);
         last = refl;
         byte = λ j e. absurd (omega arith);
       }
@@ -164,7 +163,7 @@ module _ (bytes : List ℕ) (n m : ℕ) (costs : List ℕ) where
       row_wrong wrong =
           stops_at (row_check bytes) k s.clean (row_count bytes) (omega (arith, s.counted)) checked (sym fault_same ∙ sym found) wrong
 
-      pub scanning_more : checked ≡ Clean → (next : ℕ) → next ≡ row_key row → Scanning bytes n m costs (k + 1) (start + 6) next
+      pub scanning_more : checked ≡ Ok tt → (next : ℕ) → next ≡ row_key row → Scanning bytes n m costs (k + 1) (start + 6) next
       unfolding key_before
       scanning_more e next key =
           record {
@@ -183,6 +182,6 @@ module _ (bytes : List ℕ) (n m : ℕ) (costs : List ℕ) where
                 rw same semaphore_small;
           }
 
-  pub scanning_all : {k start before : ℕ} → Scanning bytes n m costs k start before → m ≤ k → (Clean ≡ rows_check bytes) × (rows_read bytes ≡ k)
+  pub scanning_all : {k start before : ℕ} → Scanning bytes n m costs k start before → m ≤ k → (Ok tt ≡ rows_check bytes) × (rows_read bytes ≡ k)
   unfolding rows_check
   scanning_all {k} s h = goes_through (row_check bytes) k s.clean (row_count bytes) (omega (arith, s.counted, s.within))

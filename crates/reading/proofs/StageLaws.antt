@@ -1,6 +1,7 @@
 -- The stages of the reader, records and rows behind a right head: the first that is refused decides, and later ones leave the columns as
 -- they are.
 -- Assumes nothing.
+use Rattle.std.specs.Prelude.{Ok, Err}
 use Prim.Native.Nat.{ℕ, ◌≤◌}
 use native.Mathlib.Omega.{arith}
 use mathlib.Core.Path.{◌≡◌, refl, sym, ◌∙◌, ap, subst}
@@ -10,10 +11,8 @@ use lib.ListN.{length}
 use Rattle.model.proofs.Tests.{clash}
 use Rattle.model.specs.Lists.{filled}
 use Rattle.model.proofs.Lists.{filled_none}
-use Rattle.tables.specs.declared.Check.{Check}
-use Rattle.tables.specs.declared.Check.TheVariants.{Clean, Refused}
 use Rattle.tables.specs.Layout.{task_count, cost_in}
-use Rattle.tables.specs.Refusals.{is_clean, or_else, first_in}
+use Rattle.tables.specs.Refusals.{Check, is_clean, or_else, first_in}
 use Rattle.tables.specs.Checks.{head_check, records_check, rows_check, body_check, read_check, records_read, rows_read}
 use Rattle.tables.proofs.CheckLaws.{records_all}
 use Rattle.tables.proofs.FieldLaws.{clean_only, last_decides}
@@ -23,8 +22,8 @@ use Rattle.records.proofs.ColumnLaws.{holds_filled, records_long}
 -- a check that is not clean decides
 stops : (check later : Check) → is_clean check ≡ false → or_else check later ≡ check
 unfolding or_else
-stops Clean later e = absurd (clash true refl e)
-stops (Refused r) later e = refl
+stops (Ok _) later e = absurd (clash true refl e)
+stops (Err r) later e = refl
 
 -- nothing is filled, before or behind
 module _ {C : Type 0} {value : C → ℕ → ℕ} where
@@ -53,7 +52,7 @@ pub column_room : {table : List ℕ} {room : ℕ} {bytes words : List ℕ} → L
     task_count table ≤ length (record_columns room bytes words c)
 column_room lent c = rw (records_long lent c) lent.tasks_fit
 
-module _ (span : ℕ) (table : List ℕ) (head : head_check table ≡ Clean) where
+module _ (span : ℕ) (table : List ℕ) (head : head_check table ≡ Ok tt) where
   body_decides : read_check span table ≡ body_check span table
   unfolding read_check first_in or_else
   body_decides = rw head (last_decides (body_check span table))
@@ -67,7 +66,7 @@ module _ (span : ℕ) (table : List ℕ) (head : head_check table ≡ Clean) whe
         (has ∙ sym (stops (records_check span table) _ no) ∙ sym body_decides, (left.0, as_many (rw no) left.1))
 
     module _ (pass : is_clean found ≡ true) where
-      clean : records_check span table ≡ Clean
+      clean : records_check span table ≡ Ok tt
       clean = sym has ∙ clean_only found pass
 
       -- the rows are looked at with the costs of all records

@@ -8,9 +8,8 @@
 use Rattle.std.specs.Prelude.{ℕ, ◌+◌, ◌*◌, List, ltb, get_or}
 use Rattle.model.specs.Tables.{Row}
 use Rattle.reading.specs.declared.rows.RowRecord.{RowRecord}
-use Rattle.tables.specs.declared.Check.{Check}
 use Rattle.tables.specs.Fields.{row_order, row_refusal}
-use Rattle.tables.specs.Refusals.{fields_check}
+use Rattle.tables.specs.Refusals.{Check, fields_check}
 use Rattle.tables.specs.Rules.{row_test}
 
 abbrev pub row_of : RowRecord → Row

@@ -1,15 +1,14 @@
 // Reads a table into columns, up to the first fault. Every entry that takes a table reads it here.
 #![tactic(auto)]
 
-ghost use Rattle.std.specs.Prelude.{◌≡◌, ◌≤◌, ltb, length};
+ghost use Rattle.std.specs.Prelude.{◌≡◌, ◌≤◌, ltb, length, Ok};
 ghost use Rattle.model.specs.Lists.{largest_to, word_of};
-ghost use Rattle.tables.specs.declared.Check.TheVariants.{Clean};
 ghost use Rattle.tables.specs.Layout.{layout_of};
 ghost use Rattle.tables.specs.Checks.{head_check, read_check, records_read};
 ghost use Rattle.records.specs.Columns.{record_columns, row_columns, record_in, row_in, Lent, Filled, rows_reached};
 
 use tables::fields::count;
-use tables::{Check, ROW_COUNT_AT, TASK_COUNT_AT, VERSION_AT, is_clean};
+use tables::{ROW_COUNT_AT, Refusal, TASK_COUNT_AT, VERSION_AT};
 
 pub mod rows;
 
@@ -32,7 +31,7 @@ pub const LARGE_WORDS: usize = 5 * LARGE_ROOM + ROW_ROOM;
 
 // May a table of this version have more tasks than the small room?
 pub fn is_large(table: &[u8]) -> bool
-    requires { head_check table.now ≡ Clean }
+    requires { head_check table.now ≡ Ok tt }
     ensures { result ≡ ltb 32 (layout_of table.now).most }
 {
     let layout = tables::layout::of(table[VERSION_AT]);
@@ -42,8 +41,8 @@ pub fn is_large(table: &[u8]) -> bool
 // Reads a table whose head is right: refusals 5 to 7, or clean, and then the columns hold the table. A deadline may be as long as `span`
 // periods. The columns stand one behind another in the two slices, those of the tasks `room` long: priorities, places and semaphores in
 // the bytes; periods, costs, deadlines, spreads, latest delays and longest sections in the words.
-pub fn read(table: &[u8], span: u32, room: usize, bytes: &mut [u8], words: &mut [u32]) -> Check
-    requires table_value { head_check table.now ≡ Clean }
+pub fn read(table: &[u8], span: u32, room: usize, bytes: &mut [u8], words: &mut [u32]) -> Result<(), Refusal>
+    requires table_value { head_check table.now ≡ Ok tt }
     requires span_bound { (span ≤ 4) × Lent table.now room bytes.old words.old }
     ensures value { result ≡ read_check span table.now }
     ensures filled { Filled (record_in table.now) (records_read span table.now) (record_columns room bytes.old words.old) (record_columns room bytes.new words.new) }
@@ -51,10 +50,7 @@ pub fn read(table: &[u8], span: u32, room: usize, bytes: &mut [u8], words: &mut 
 {
     let layout = tables::layout::of(table[VERSION_AT]);
     let n = count(table[TASK_COUNT_AT]);
-    let found = records::read_all(table, layout, span, n, room, bytes, words);
-    if !is_clean(found) {
-        return found;
-    }
+    records::read_all(table, layout, span, n, room, bytes, words)?;
     let m = count(table[ROW_COUNT_AT]);
     rows::read_all(table, layout, n, m, room, bytes, words)
 }

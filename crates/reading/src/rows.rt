@@ -11,8 +11,8 @@ use model::{Place, Ticks};
 use tables::fields::{count, wide, within, word};
 use tables::layout::Layout;
 use tables::{
-    Check, HEAD_SIZE, LONGEST_AT, MOST_SEMAPHORE, ORDER_AT, Offset, PLACE_AT, ROW_SIZE, Refusal,
-    SEMAPHORE_AT, is_clean,
+    HEAD_SIZE, LONGEST_AT, MOST_SEMAPHORE, ORDER_AT, Offset, PLACE_AT, ROW_SIZE, Refusal,
+    SEMAPHORE_AT,
 };
 
 // One row's numbers.
@@ -46,7 +46,7 @@ fn key(row: RowRecord) -> u32
 
 // Tests the row that begins at `at`: place, semaphore, length and then its order behind the row before (SPECIFICATION 3.1; document 02,
 // L3). The first that is wrong is refused at its own first byte. The place is tested before a cost is looked up by it.
-fn check(row: RowRecord, at: usize, n: usize, costs: &[u32], before: u32) -> Check
+fn check(row: RowRecord, at: usize, n: usize, costs: &[u32], before: u32) -> Result<(), Refusal>
     requires at_bound { at < 65536 }
     requires place_bound { (row.place.0 < 256) × (row.semaphore < 256) }
     requires n_in_bounds { n ≤ length costs.now }
@@ -54,18 +54,18 @@ fn check(row: RowRecord, at: usize, n: usize, costs: &[u32], before: u32) -> Che
 {
     let place = row.place.0;
     if n <= place {
-        return Check::Refused(Refusal::SectionRow(Offset(at + PLACE_AT)));
+        return Err(Refusal::SectionRow(Offset(at + PLACE_AT)));
     }
     if !within(1, MOST_SEMAPHORE, wide(row.semaphore)) {
-        return Check::Refused(Refusal::SectionRow(Offset(at + SEMAPHORE_AT)));
+        return Err(Refusal::SectionRow(Offset(at + SEMAPHORE_AT)));
     }
     if !within(1, costs[place], row.longest.0) {
-        return Check::Refused(Refusal::SectionRow(Offset(at + LONGEST_AT)));
+        return Err(Refusal::SectionRow(Offset(at + LONGEST_AT)));
     }
     if key(row) <= before {
-        return Check::Refused(Refusal::SectionRow(Offset(at + ORDER_AT)));
+        return Err(Refusal::SectionRow(Offset(at + ORDER_AT)));
     }
-    Check::Clean
+    Ok(())
 }
 
 // Takes the m rows in order, and keeps the fields of those before the first fault.
@@ -77,7 +77,7 @@ pub fn read_all(
     room: usize,
     bytes: &mut [u8],
     words: &mut [u32],
-) -> Check
+) -> Result<(), Refusal>
     requires head_read { HeadRead table.now layout n × (m ≡ row_count table.now) }
     requires lent { Lent table.now room bytes.old words.old }
     requires holds { Holds (record_columns room bytes.old words.old cost_column) n (cost_in table.now) }
@@ -91,15 +91,12 @@ pub fn read_all(
     for k in 0..m {
         let row = read(table, at);
         let costs = &words[room..2 * room];
-        let checked = check(row, at, n, costs, before);
-        if !is_clean(checked) {
-            return checked;
-        }
+        check(row, at, n, costs, before)?;
         bytes[room + k] = row.place.0 as u8;
         bytes[room + ROW_ROOM + k] = row.semaphore;
         words[5 * room + k] = row.longest.0;
         before = key(row);
         at += ROW_SIZE;
     }
-    Check::Clean
+    Ok(())
 }

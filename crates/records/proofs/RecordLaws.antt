@@ -1,5 +1,6 @@
 -- One turn of the reader of records: what is known before it, and the ways in which it goes on.
 -- Assumes nothing.
+use Rattle.std.specs.Prelude.{Ok, Err}
 use Prim.Native.Nat.{ℕ, zero, suc, ◌+◌, ◌-◌, ◌≤◌, ◌<◌}
 use native.Mathlib.Omega.{arith}
 use native.Mathlib.Numerals.{add-one}
@@ -19,10 +20,8 @@ use Rattle.tables.specs.declared.layout.DelayFields.{DelayFields}
 use Rattle.tables.specs.declared.layout.DelayFields.TheVariants.{Jitter, Pair}
 use Rattle.tables.specs.declared.layout.Layout.{Layout}
 use Rattle.tables.specs.declared.Refusal.TheVariants.{NumberOutOfRange}
-use Rattle.tables.specs.declared.Check.{Check}
-use Rattle.tables.specs.declared.Check.TheVariants.{Clean, Refused}
 use Rattle.tables.specs.Layout.{word_at, jitter_at, earliest_from, layout_of, task_count, record_start, record_from, task_at, priority_in}
-use Rattle.tables.specs.Refusals.{is_clean, offset, fields_check}
+use Rattle.tables.specs.Refusals.{Check, is_clean, offset, fields_check}
 use Rattle.tables.specs.Fields.{period_field, cost_field, deadline_field, earliest_field, latest_field, record_order, record_refusal}
 use Rattle.tables.specs.Rules.{between, priority_fits, longest_deadline, record_test}
 use Rattle.tables.specs.Checks.{record_check, records_check, records_read}
@@ -46,17 +45,17 @@ earliest_right earliest latest p =
 pub delay_refused : (span : ℕ) (task : Task) (layout : Layout) (start highest : ℕ) → between 1 1000000 task.period ≡ true →
     between 1 1000000 task.cost ≡ true → between 1 (longest_deadline span task.period) task.deadline ≡ true →
     between task.earliest 1000000 task.latest ≡ false → (at : ℕ) → at ≡ delay_at layout.delays task.earliest →
-    Refused (NumberOutOfRange (offset (start + at))) ≡ record_fault (at_record layout start span highest) task
+    Err (NumberOutOfRange (offset (start + at))) ≡ record_fault (at_record layout start span highest) task
 unfolding record_test
 delay_refused span task layout start highest period cost deadline wrong at e =
     elim (ltb? 1000000 task.earliest) [
       | inl far ↦
-          ap (λ (k : ℕ). Refused (NumberOutOfRange (offset (start + k)))) (e ∙ rw far.0)
+          ap (λ (k : ℕ). Err (NumberOutOfRange (offset (start + k)))) (e ∙ rw far.0)
           ∙ sym
           (tests_fail _ _ (period_field ∷ cost_field ∷ deadline_field ∷ []) _ earliest_field (period, (cost, (deadline, tt)))
           (both_fail (leb 0 task.earliest) _ (lt-leb task.earliest 1000000 far.1)))
       | inr near ↦
-          ap (λ (k : ℕ). Refused (NumberOutOfRange (offset (start + k)))) (e ∙ rw near.0)
+          ap (λ (k : ℕ). Err (NumberOutOfRange (offset (start + k)))) (e ∙ rw near.0)
           ∙ sym
           (tests_fail _ _ (period_field ∷ cost_field ∷ deadline_field ∷ earliest_field ∷ []) _ latest_field
           (period, (cost, (deadline, (both_pass (le-leb 0 task.earliest (omega arith)) (le-leb task.earliest 1000000 near.1), tt)))) wrong)
@@ -81,7 +80,7 @@ pub record Reading (span : ℕ) (bytes : List ℕ) (layout : Layout) (n i start 
   pub few : n < 256
   pub within : i ≤ n
   pub here : start ≡ record_start layout i
-  pub clean : first_of is_clean Clean (record_check span bytes) i ≡ Clean
+  pub clean : first_of is_clean (Ok tt) (record_check span bytes) i ≡ Ok tt
   pub last : highest ≡ highest_for bytes i
 
 module _ (span : ℕ) (bytes : List ℕ) (layout : Layout) (n : ℕ) where
@@ -93,7 +92,7 @@ module _ (span : ℕ) (bytes : List ℕ) (layout : Layout) (n : ℕ) where
         few = few_tasks_law bytes layout n h;
         within = omega arith;
         here = omega arith;
-        clean = first_laws.first_none is_clean Clean refl (record_check span bytes);
+        clean = first_laws.first_none is_clean (Ok tt) refl (record_check span bytes);
         last = refl;
       }
 
@@ -160,7 +159,7 @@ module _ (span : ℕ) (bytes : List ℕ) (layout : Layout) (n : ℕ) where
             }
 
   pub reading_all : {i start highest : ℕ} → Reading span bytes layout n i start highest → n ≤ i →
-      (Clean ≡ records_check span bytes) × (records_read span bytes ≡ i)
+      (Ok tt ≡ records_check span bytes) × (records_read span bytes ≡ i)
   unfolding records_check
   reading_all {i} r h = goes_through (record_check span bytes) i r.clean (task_count bytes) (omega (arith, r.head.counted, r.within))
 

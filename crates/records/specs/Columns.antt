@@ -1,10 +1,9 @@
 -- The columns that a table is read into, and what they hold after that.
 -- Assumes nothing.
-use Rattle.std.specs.Prelude.{ℕ, ◌+◌, ◌*◌, ◌≤◌, ◌<◌, ◌≡◌, List, length, get_or, take, drop}
+use Rattle.std.specs.Prelude.{ℕ, ◌+◌, ◌*◌, ◌≤◌, ◌<◌, ◌≡◌, List, length, get_or, take, drop, Ok}
 use Rattle.model.specs.Choice.{on}
 use Rattle.model.specs.Lists.{filled}
 use Rattle.model.specs.Tables.{Task, Row, spread_of}
-use Rattle.tables.specs.declared.Check.TheVariants.{Clean}
 use Rattle.tables.specs.Layout.{task_count, row_count, task_at, row_at}
 use Rattle.tables.specs.Refusals.{is_clean}
 use Rattle.tables.specs.Checks.{records_check, read_check, rows_read}
@@ -85,6 +84,6 @@ pub record Holds (words : List ℕ) (n : ℕ) (f : ℕ → ℕ) : Type 0 where
 
 -- nothing of the table is refused, and the columns hold its records and its rows
 pub record TableHeld (span : ℕ) (bytes : List ℕ) (records : RecordColumn → List ℕ) (rows : RowColumn → List ℕ) : Type 0 where
-  pub clean : read_check span bytes ≡ Clean
+  pub clean : read_check span bytes ≡ Ok tt
   pub of_records : (c : RecordColumn) → Holds (records c) (task_count bytes) (record_in bytes c)
   pub of_rows : (c : RowColumn) → Holds (rows c) (row_count bytes) (row_in bytes c)

@@ -6,24 +6,22 @@
 -- number, the highest priority that it may have. It exists for the contract of `records::check` alone. That both are the same is proved in
 -- proofs/RecordLaws.antt, and the contracts of `records::read_all` and `reading::read` speak of the first only.
 -- Assumes nothing.
-use Rattle.std.specs.Prelude.{ℕ, ◌≡◌, List, ltb}
+use Rattle.std.specs.Prelude.{ℕ, ◌≡◌, List, ltb, Ok}
 use Rattle.model.specs.Choice.{pick}
 use Rattle.model.specs.Tables.{Task}
 use Rattle.tables.specs.declared.layout.Layout.{Layout}
 use Rattle.tables.specs.declared.layout.DelayFields.{DelayFields}
 use Rattle.tables.specs.declared.layout.DelayFields.TheVariants.{Jitter, Pair}
 use Rattle.records.specs.declared.TaskRecord.{TaskRecord}
-use Rattle.tables.specs.declared.Check.{Check}
-use Rattle.tables.specs.declared.Check.TheVariants.{Clean}
 use Rattle.tables.specs.Fields.{record_order, record_refusal}
-use Rattle.tables.specs.Refusals.{fields_check}
+use Rattle.tables.specs.Refusals.{Check, fields_check}
 use Rattle.tables.specs.Rules.{between, record_test}
 use Rattle.tables.specs.Checks.{head_check}
 use Rattle.tables.specs.Layout.{layout_of, task_count, earliest_at, latest_at}
 
 -- the head is right, and its layout and its number of tasks are known
 pub record HeadRead (bytes : List ℕ) (layout : Layout) (n : ℕ) : Type 0 where
-  pub head : head_check bytes ≡ Clean
+  pub head : head_check bytes ≡ Ok tt
   pub decided : layout ≡ layout_of bytes
   pub counted : n ≡ task_count bytes
 

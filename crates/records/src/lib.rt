@@ -12,8 +12,8 @@ use model::{Priority, Ticks};
 use tables::fields::{wide, within, word};
 use tables::layout::{DelayFields, Layout};
 use tables::{
-    COST_AT, Check, DEADLINE_AT, EARLIEST_AT, HEAD_SIZE, JITTER_AT, LATEST_AT, MOST_TICKS, Offset,
-    PERIOD_AT, PRIORITY_AT, Refusal, is_clean,
+    COST_AT, DEADLINE_AT, EARLIEST_AT, HEAD_SIZE, JITTER_AT, LATEST_AT, MOST_TICKS, Offset,
+    PERIOD_AT, PRIORITY_AT, Refusal,
 };
 
 // The first record may have any priority that a byte holds.
@@ -107,28 +107,28 @@ fn delay_at(fields: DelayFields, earliest: Ticks) -> usize
 
 // Tests the record that begins at `at`: T, C, D, the delays, and then the priority, which stands first and is tested last (document
 // 02, L3). The first that is wrong is refused at its own first byte. An earliest that is at most a right latest is right.
-pub fn check(task: TaskRecord, layout: Layout, span: u32, at: usize, highest: Priority) -> Check
+pub fn check(task: TaskRecord, layout: Layout, span: u32, at: usize, highest: Priority) -> Result<(), Refusal>
     requires { (span ≤ 4) × (at < 65536) }
     ensures { result ≡ record_fault (at_record layout at span highest.0) (task_from task) }
 {
     if !within(1, MOST_TICKS, task.period.0) {
-        return Check::Refused(Refusal::NumberOutOfRange(Offset(at + PERIOD_AT)));
+        return Err(Refusal::NumberOutOfRange(Offset(at + PERIOD_AT)));
     }
     if !within(1, MOST_TICKS, task.cost.0) {
-        return Check::Refused(Refusal::NumberOutOfRange(Offset(at + COST_AT)));
+        return Err(Refusal::NumberOutOfRange(Offset(at + COST_AT)));
     }
     if !within(1, longest_deadline(span, task.period).0, task.deadline.0) {
-        return Check::Refused(Refusal::NumberOutOfRange(Offset(at + DEADLINE_AT)));
+        return Err(Refusal::NumberOutOfRange(Offset(at + DEADLINE_AT)));
     }
     if !within(task.earliest.0, MOST_TICKS, task.latest.0) {
         let fields = layout.delays;
         let delay = delay_at(fields, task.earliest);
-        return Check::Refused(Refusal::NumberOutOfRange(Offset(at + delay)));
+        return Err(Refusal::NumberOutOfRange(Offset(at + delay)));
     }
     if !within(1, wide(highest.0), wide(task.priority.0)) {
-        return Check::Refused(Refusal::PriorityOutOfOrder(Offset(at + PRIORITY_AT)));
+        return Err(Refusal::PriorityOutOfOrder(Offset(at + PRIORITY_AT)));
     }
-    Check::Clean
+    Ok(())
 }
 
 // Takes the n records in order, and keeps the fields of those before the first fault.
@@ -140,7 +140,7 @@ pub fn read_all(
     room: usize,
     bytes: &mut [u8],
     words: &mut [u32],
-) -> Check
+) -> Result<(), Refusal>
     requires head_read { HeadRead table.now layout n × (span ≤ 4) }
     requires lent { Lent table.now room bytes.old words.old }
     ensures value { result ≡ records_check span table.now }
@@ -151,10 +151,7 @@ pub fn read_all(
     let mut at = HEAD_SIZE;
     for i in 0..n {
         let task = read(table, layout, at);
-        let found = check(task, layout, span, at, highest);
-        if !is_clean(found) {
-            return found;
-        }
+        check(task, layout, span, at, highest)?;
         bytes[i] = task.priority.0;
         words[i] = task.period.0;
         words[room + i] = task.cost.0;
@@ -165,5 +162,5 @@ pub fn read_all(
         highest = task.priority;
         at += layout.size;
     }
-    Check::Clean
+    Ok(())
 }

@@ -1,5 +1,6 @@
 -- A report's line: the table of one that is not refused breaks no rule; and how long a line can be.
 -- Assumes nothing.
+use Rattle.std.specs.Prelude.{Ok, Err}
 use Prim.Native.Nat.{ℕ, ◌+◌, ◌*◌, ◌≤◌, ◌<◌}
 use native.Mathlib.Omega.{arith}
 use native.Mathlib.Nat.{mul-le-mul}
@@ -7,13 +8,11 @@ use mathlib.Core.Path.{◌≡◌, refl, sym, ◌∙◌, ap, subst}
 use mathlib.Core.List.{List, ◌++◌}
 use lib.ListN.{length, length-append}
 use Rattle.model.specs.declared.Place.{Place}
-use Rattle.tables.specs.declared.Check.{Check}
-use Rattle.tables.specs.declared.Check.TheVariants as check
 use Rattle.tables.specs.declared.Refusal.{Refusal}
 use Rattle.tables.specs.Fields.{task_count_field}
 use Rattle.tables.specs.Layout.{layout_of, task_count, tasks_of, table_of}
 use Rattle.tables.specs.Meaning.{TableRight}
-use Rattle.tables.specs.Refusals.{place_of}
+use Rattle.tables.specs.Refusals.{Check, place_of}
 use Rattle.tables.specs.Checks.{table_check}
 use Rattle.tables.proofs.CheckLaws.{table_right}
 use Rattle.tables.proofs.LayoutLaws.{layout_sound}
@@ -40,8 +39,8 @@ unfolding verdict_of
 good_right table n = go (table_check table 200 200) refl
   where
     go : (c : Check) → table_check table 200 200 ≡ c → TableRight table
-    go check.Clean e = (table_right 1 table 200 200 e).0
-    go (check.Refused refusal) e =
+    go (Ok _) e = (table_right 1 table 200 200 e).0
+    go (Err refusal) e =
         absurd (n refusal (ap (λ (c : Check). verdict_for c (result_of (answer_of (table_of table)) (task_count table))) e))
 
 pub schedulable_right : (table : List ℕ) → Schedulable ≡ judged_as table → TableRight table

@@ -1,5 +1,6 @@
 -- Slices that hold a decoded table give the answers of the table that the bytes mean.
 -- Assumes nothing.
+use Rattle.std.specs.Prelude.{Ok}
 use Prim.Native.Nat.{ℕ, suc, ◌+◌, ◌*◌, ◌≤◌, ◌<◌}
 use native.Mathlib.Omega.{arith}
 use mathlib.Core.Path.{◌≡◌, refl, sym, ◌∙◌, ap}
@@ -20,7 +21,6 @@ use Rattle.tables.specs.Fields.{task_count_field, row_count_field, period_field,
 use Rattle.tables.specs.Layout.{task_count, row_count, task_at, row_at, tasks_of, table_of, priority_in, place_in}
 use Rattle.tables.specs.Meaning.{TableRightSpanning}
 use Rattle.tables.specs.Checks.{read_check}
-use Rattle.tables.specs.declared.Check.TheVariants.{Clean}
 use Rattle.tables.proofs.LayoutLaws.{layout_sound, task_is, priority_at, tasks_count}
 use Rattle.records.proofs.ColumnLaws.{holds_filled}
 use Rattle.reading.proofs.HeldLaws.{held_right}
@@ -254,7 +254,7 @@ module _ {span : ℕ} (bytes : List ℕ) (records : RecordColumn → List ℕ) (
       rounds_agree start = rw (base_is, loads_agree, latest_is, deadline_is)
 
     -- the answers of the columns are the outcome for the bytes
-    pub table_answered : read_check 1 bytes ≡ Clean → (start : Start) (answers rounds : List ℕ) → (n ≤ length answers) × (n ≤ length rounds) → (v : Verdict)
+    pub table_answered : read_check 1 bytes ≡ Ok tt → (start : Start) (answers rounds : List ℕ) → (n ≤ length answers) × (n ≤ length rounds) → (v : Verdict)
         (answers_left rounds_left : List ℕ) →
         Answered start (decoded_from ranks records blocked) n v (slice answers answers_left) (slice rounds rounds_left) →
         Outcome start (lending bytes answers rounds) (leaving v answers_left rounds_left)

@@ -1,5 +1,6 @@
 -- Demands 1 to 3 for bytes, and that the contract of `analyse` leaves no second answer.
 -- Assumes nothing.
+use Rattle.std.specs.Prelude.{Ok, Err}
 use Prim.Native.Nat.{ℕ, ◌+◌, ◌≤◌, ◌<◌}
 use native.Mathlib.Omega.{arith}
 use native.Mathlib.Decide.{dec_le}
@@ -18,10 +19,8 @@ use Rattle.model.proofs.Lists.{get_d_filled, get_d_filled_past, length_filled}
 use Rattle.model.proofs.Tests.{bool?, clash}
 use Rattle.model.proofs.First as first_laws
 use Rattle.tables.specs.declared.Refusal.{Refusal}
-use Rattle.tables.specs.declared.Check.{Check}
-use Rattle.tables.specs.declared.Check.TheVariants as check
 use Rattle.tables.specs.Layout.{task_count, row_count, tasks_of, row_at, table_of}
-use Rattle.tables.specs.Refusals.{at, is_clean}
+use Rattle.tables.specs.Refusals.{Check, at, is_clean}
 use Rattle.tables.specs.Checks.{table_check}
 use Rattle.tables.proofs.CheckLaws.{table_deserved, table_gives, table_right, table_clean}
 use Rattle.tables.proofs.LayoutLaws.{tasks_count}
@@ -45,12 +44,12 @@ use Rattle.response.proofs.TableLaws.{tasks_fit_law, periods_of}
 
 -- which verdict a check leads to
 pub refused_by : (c : Check) (result : Verdict) (r : Refusal) → is_schedulable result ≡ true ⊎ ((i : _) × (result ≡ verdict.Late i)) →
-    verdict.Refused r ≡ verdict_for c result → c ≡ check.Refused r
-refused_by check.Clean result r (inl s) e =
+    verdict.Refused r ≡ verdict_for c result → c ≡ Err r
+refused_by (Ok _) result r (inl s) e =
     absurd (clash (is_schedulable result) s (ap is_schedulable (sym e)))
-refused_by check.Clean result r (inr late) e =
+refused_by (Ok _) result r (inr late) e =
     let z : ◌≡◌ {A = ℕ} 0 1 = cc (e, late.1) in absurd (omega arith)
-refused_by (check.Refused s) result r t e = cc
+refused_by (Err s) result r t e = cc
 
 -- a result is schedulable, or late at a place
 pub result_cases : (answers : ℕ → ℕ) (n : ℕ) → (is_schedulable (result_of answers n) ≡ true) ⊎ ((i : _) × (result_of answers n ≡ verdict.Late i))
@@ -71,35 +70,35 @@ result_cases answers n =
 
 module _ (bytes answers rounds : List ℕ) where
   refusal_is : (r : Refusal) → verdict.Refused r ≡ verdict_of bytes (length answers) (length rounds) →
-      table_check bytes (length answers) (length rounds) ≡ check.Refused r
+      table_check bytes (length answers) (length rounds) ≡ Err r
   unfolding verdict_of
   refusal_is r e =
       refused_by (table_check bytes (length answers) (length rounds)) (result_of (answer_of (table_of bytes)) (task_count bytes)) r
       (result_cases (answer_of (table_of bytes)) (task_count bytes)) e
 
-  pub answers_kept : (r : Refusal) → table_check bytes (length answers) (length rounds) ≡ check.Refused r → answers_after bytes answers rounds ≡ answers
+  pub answers_kept : (r : Refusal) → table_check bytes (length answers) (length rounds) ≡ Err r → answers_after bytes answers rounds ≡ answers
   unfolding answers_after
   answers_kept r e = rw e
 
-  rounds_kept : (start : Start) (r : Refusal) → table_check bytes (length answers) (length rounds) ≡ check.Refused r →
+  rounds_kept : (start : Start) (r : Refusal) → table_check bytes (length answers) (length rounds) ≡ Err r →
       rounds_after start bytes answers rounds ≡ rounds
   unfolding rounds_after
   rounds_kept start r e = rw e
 
   -- a deserved refusal is the verdict
-  pub verdict_given : (r : Refusal) → table_check bytes (length answers) (length rounds) ≡ check.Refused r →
+  pub verdict_given : (r : Refusal) → table_check bytes (length answers) (length rounds) ≡ Err r →
       verdict_of bytes (length answers) (length rounds) ≡ verdict.Refused r
   unfolding verdict_of
   verdict_given r e = rw e
 
   -- a check that refuses gives a verdict that refuses
   check_clean : ((r : Refusal) → ¬ (verdict_of bytes (length answers) (length rounds) ≡ verdict.Refused r)) →
-      table_check bytes (length answers) (length rounds) ≡ check.Clean
+      table_check bytes (length answers) (length rounds) ≡ Ok tt
   check_clean never = go (table_check bytes (length answers) (length rounds)) refl
     where
-      go : (c : Check) → table_check bytes (length answers) (length rounds) ≡ c → table_check bytes (length answers) (length rounds) ≡ check.Clean
-      go check.Clean e = e
-      go (check.Refused r) e = absurd (never r (verdict_given r e))
+      go : (c : Check) → table_check bytes (length answers) (length rounds) ≡ c → table_check bytes (length answers) (length rounds) ≡ Ok tt
+      go (Ok _) e = e
+      go (Err r) e = absurd (never r (verdict_given r e))
 
 pub demand1 : says.Demand1
 demand1 =
@@ -237,7 +236,7 @@ module _ (start : Start) (lent : Call) (result : Left) (o : Outcome start lent r
   abbrev bytes : List ℕ
   bytes = lent.bytes
 
-  clean : table_check bytes (length lent.answers) (length lent.rounds) ≡ check.Clean
+  clean : table_check bytes (length lent.answers) (length lent.rounds) ≡ Ok tt
   clean = table_clean 1 bytes (length lent.answers) (length lent.rounds) accepted.right accepted.room
 
   pub answers_filled : result.answers ≡ filled (answer_of (table_of bytes)) (task_count bytes) lent.answers

@@ -1,11 +1,11 @@
 -- The analysis needs the first 4,590 bytes only: a longer table is refused for its head, whatever stands behind it.
 -- Assumes nothing.
+use Rattle.std.specs.Prelude.{Err}
 use Prim.Native.Nat.{ℕ}
 use mathlib.Core.Path.{◌≡◌, refl, sym}
 use mathlib.Core.List.{List}
 use lib.ListN.{length}
 use Rattle.tables.specs.declared.Refusal.{Refusal}
-use Rattle.tables.specs.declared.Check.TheVariants.{Refused}
 use Rattle.tables.specs.Checks.{head_check, table_check}
 use Rattle.tables.proofs.OrderLaws.{head_decides, read_decides}
 use Rattle.tables.proofs.FirstLaws.{kept_alike}
@@ -14,8 +14,8 @@ use Rattle.answering.specs.declared.Verdict.TheVariants as verdict
 use Rattle.response.specs.Outcome.{verdict_of, answers_after, rounds_after}
 use Rattle.response.specs.FirstBytes.{FirstBytes}
 
-module _ (bytes : List ℕ) (refusal : Refusal) (e : head_check bytes ≡ Refused refusal) where
-  refused : (answers rounds : ℕ) → table_check bytes answers rounds ≡ Refused refusal
+module _ (bytes : List ℕ) (refusal : Refusal) (e : head_check bytes ≡ Err refusal) where
+  refused : (answers rounds : ℕ) → table_check bytes answers rounds ≡ Err refusal
   refused answers rounds = read_decides 1 bytes answers rounds refusal (head_decides 1 bytes refusal (sym e))
 
   pub refused_verdict : (answers rounds : ℕ) → verdict_of bytes answers rounds ≡ verdict.Refused refusal

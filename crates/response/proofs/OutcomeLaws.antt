@@ -1,5 +1,6 @@
 -- Which outcome each check leads to.
 -- Assumes nothing.
+use Rattle.std.specs.Prelude.{Ok, Err}
 use Prim.Native.Nat.{ℕ, ◌≤◌, ◌<◌}
 use mathlib.Core.Path.{◌≡◌, ◌∙◌, ap}
 use mathlib.Core.Bool.{false}
@@ -12,7 +13,6 @@ use Rattle.model.proofs.Filling.{filled_same}
 use Rattle.model.proofs.First.{first_same}
 use Rattle.tables.specs.declared.Refusal.{Refusal}
 use Rattle.tables.specs.declared.Refusal.TheVariants.{NoRoom}
-use Rattle.tables.specs.declared.Check.TheVariants as check
 use Rattle.tables.specs.Layout.{task_count, table_of}
 use Rattle.tables.specs.Refusals.{at}
 use Rattle.tables.specs.Checks.{read_check, table_check}
@@ -29,21 +29,21 @@ use Rattle.answering.specs.Slices.{Decoded, answer_in, rounds_in, slice, Answere
 
 module _ (start : Start) (bytes answers rounds : List ℕ) where
   -- a refusal leaves both slices as they were
-  refused : (r : Refusal) → table_check bytes (length answers) (length rounds) ≡ check.Refused r →
+  refused : (r : Refusal) → table_check bytes (length answers) (length rounds) ≡ Err r →
       Outcome start (lending bytes answers rounds) (leaving (verdict.Refused r) answers rounds)
   unfolding verdict_of answers_after rounds_after
   refused r e = record { verdict_is = rw e; answers_are = rw e; rounds_are = rw e }
 
-  pub read_refused : (r : Refusal) → check.Refused r ≡ read_check 1 bytes → Outcome start (lending bytes answers rounds) (leaving (verdict.Refused r) answers rounds)
+  pub read_refused : (r : Refusal) → Err r ≡ read_check 1 bytes → Outcome start (lending bytes answers rounds) (leaving (verdict.Refused r) answers rounds)
   read_refused r e = refused r (read_decides 1 bytes (length answers) (length rounds) r e)
 
-  module _ (clean : read_check 1 bytes ≡ check.Clean) (n : ℕ) (counted : n ≡ task_count bytes) where
+  module _ (clean : read_check 1 bytes ≡ Ok tt) (n : ℕ) (counted : n ≡ task_count bytes) where
     pub no_room : both (leb n (length answers)) (leb n (length rounds)) ≡ false →
         Outcome start (lending bytes answers rounds) (leaving (verdict.Refused NoRoom) answers rounds)
     no_room e = refused NoRoom (room_decides 1 bytes (length answers) (length rounds) clean n counted e)
 
     module _ (answers_long : n ≤ length answers) (rounds_long : n ≤ length rounds) where
-      accepted : table_check bytes (length answers) (length rounds) ≡ check.Clean
+      accepted : table_check bytes (length answers) (length rounds) ≡ Ok tt
       accepted = all_pass 1 bytes (length answers) (length rounds) clean n counted answers_long rounds_long
 
       filled_all : (f g : ℕ → ℕ) (old : List ℕ) → ((i : ℕ) → i < n → f i ≡ g i) → filled f n old ≡ filled g (task_count bytes) old

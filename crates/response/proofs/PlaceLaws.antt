@@ -1,5 +1,6 @@
 -- How far on the place of a verdict can be.
 -- Assumes nothing.
+use Rattle.std.specs.Prelude.{Ok, Err}
 use Prim.Native.Nat.{ℕ, ◌≤◌, ◌<◌}
 use native.Mathlib.Omega.{arith}
 use mathlib.Core.Path.{◌≡◌, refl}
@@ -9,11 +10,9 @@ use mathlib.Core.Logic.{inl, inr}
 use lib.Dec.{eqb}
 use Rattle.model.proofs.Tests.{bool?, clash}
 use Rattle.model.proofs.First as first_laws
-use Rattle.tables.specs.declared.Check.{Check}
-use Rattle.tables.specs.declared.Check.TheVariants as check
 use Rattle.tables.specs.Fields.{task_count_field}
 use Rattle.tables.specs.Layout.{task_count, table_of}
-use Rattle.tables.specs.Refusals.{at}
+use Rattle.tables.specs.Refusals.{Check, at}
 use Rattle.tables.specs.Checks.{table_check}
 use Rattle.tables.proofs.LayoutLaws.{layout_sound}
 use Rattle.tables.proofs.CheckLaws.{table_deserved, table_right}
@@ -52,7 +51,7 @@ unfolding verdict_of
 verdict_place_law bytes answers rounds = go (table_check bytes answers rounds) refl
   where
     go : (c : Check) → table_check bytes answers rounds ≡ c → verdict_place (verdict_for c (result_of (answer_of (table_of bytes)) (task_count bytes))) < 65536
-    go check.Clean e =
+    go (Ok _) e =
         let head = (table_right 1 bytes answers rounds e).0.head in
         omega (
           arith,
@@ -60,4 +59,4 @@ verdict_place_law bytes answers rounds = go (table_check bytes answers rounds) r
           (head.counts task_count_field).high,
           (layout_sound bytes head.version).few,
         )
-    go (check.Refused r) e = refusal_place 1 bytes answers rounds r (table_deserved 1 bytes answers rounds r e)
+    go (Err r) e = refusal_place 1 bytes answers rounds r (table_deserved 1 bytes answers rounds r e)

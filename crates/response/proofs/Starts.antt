@@ -1,5 +1,6 @@
 -- From both starts the same answers, and from the default no more rounds.
 -- Assumes nothing.
+use Rattle.std.specs.Prelude.{Ok, Err}
 use Prim.Native.Nat.{ℕ, ◌+◌, ◌-◌, ◌≤◌, ◌<◌}
 use native.Mathlib.Omega.{arith}
 use native.Mathlib.Decide.{dec_le}
@@ -9,8 +10,7 @@ use lib.ListN.{length}
 use Rattle.model.specs.Lists.{filled, word_of}
 use Rattle.model.specs.Tables.{task_of, loads_of}
 use Rattle.model.proofs.Lists.{get_d_filled, get_d_filled_past}
-use Rattle.tables.specs.declared.Check.{Check}
-use Rattle.tables.specs.declared.Check.TheVariants as check
+use Rattle.tables.specs.Refusals.{Check}
 use Rattle.tables.specs.Layout.{task_count, tasks_of, table_of}
 use Rattle.tables.specs.Checks.{table_check}
 use Rattle.tables.specs.Meaning.{TableRight}
@@ -93,8 +93,8 @@ module _ (bytes answers rounds : List ℕ) where
     where
       go : (c : Check) → table_check bytes (length answers) (length rounds) ≡ c →
           Fewer (word_of (rounds_after EveryCost bytes answers rounds) i) (word_of (rounds_after OwnCost bytes answers rounds) i)
-      go check.Clean e = rw e (filled_fewer (table_right 1 bytes (length answers) (length rounds) e).0 i)
-      go (check.Refused r) e = rw e (stayed (word_of rounds i))
+      go (Ok _) e = rw e (filled_fewer (table_right 1 bytes (length answers) (length rounds) e).0 i)
+      go (Err r) e = rw e (stayed (word_of rounds i))
 
 pub two_starts : TwoStarts
 two_starts =

@@ -1,5 +1,6 @@
 -- The worked tables as bytes: one test, computed over the whole list in each version, and the rule at each row of it.
 -- Assumes nothing.
+use Rattle.std.specs.Prelude.{Ok, Err}
 use Prim.Native.Nat.{ℕ, ◌<◌}
 use native.Mathlib.Omega.{arith}
 use mathlib.Core.Path.{◌≡◌, refl, ◌∙◌, ap}
@@ -14,10 +15,8 @@ use Rattle.model.specs.Tables.{Task, Row, Table}
 use Rattle.model.proofs.Lists.{tabulate_same}
 use Rattle.model.proofs.Tasks.{same_task_law, same_row_law}
 use Rattle.model.proofs.Tests.{both_true, clash}
-use Rattle.tables.specs.declared.Check.{Check}
-use Rattle.tables.specs.declared.Check.TheVariants as check
 use Rattle.tables.specs.Layout.{layout_for, task_count, table_of}
-use Rattle.tables.specs.Refusals.{is_clean, unless, or_else, first_in, fields_check}
+use Rattle.tables.specs.Refusals.{Check, is_clean, unless, or_else, first_in, fields_check}
 use Rattle.tables.specs.Rules.{count_test, lengths_agree, priority_fits, record_test, row_after, row_test}
 use Rattle.tables.specs.Checks.{counts_check, record_check, row_check, head_check, records_check, rows_check, body_check, room_check, table_check_spanning, table_check}
 use Rattle.tables.proofs.CheckLaws.{table_right}
@@ -92,9 +91,9 @@ test w version =
     (both (eqb (task_count (encode version (worked_table w))) (tasks_in w))
     (same_table (table_of (encode version (worked_table w))) (worked_table w))))
 
-clean_is : (c : Check) → is_clean c ≡ true → c ≡ check.Clean
-clean_is check.Clean p = refl
-clean_is (check.Refused r) p = absurd (clash false p refl)
+clean_is : (c : Check) → is_clean c ≡ true → c ≡ Ok tt
+clean_is (Ok _) p = refl
+clean_is (Err r) p = absurd (clash false p refl)
 
 module _ (w : Worked) (version : ℕ) where
   abbrev bytes : List ℕ
@@ -104,7 +103,7 @@ module _ (w : Worked) (version : ℕ) where
   n = tasks_in w
 
   -- what the test says is what is wanted
-  worked_bytes : WorkedRight w → AreBytes bytes → table_check bytes n n ≡ check.Clean → task_count bytes ≡ n → table_of bytes ≡ worked_table w → WorkedBytes w version
+  worked_bytes : WorkedRight w → AreBytes bytes → table_check bytes n n ≡ Ok tt → task_count bytes ≡ n → table_of bytes ≡ worked_table w → WorkedBytes w version
   worked_bytes right are clean counted back =
       let accepted = (table_right 1 bytes n n clean).0 in
       record {

@@ -1,10 +1,9 @@
 -- What `analyse_from` answers and leaves in both slices, for any start, bytes and slices (SPECIFICATION 6; document 01, "Refusals").
 -- `analyse` is that with the default start.
 -- Assumes nothing.
-use Rattle.std.specs.Prelude.{ℕ, ◌≡◌, List, length}
+use Rattle.std.specs.Prelude.{ℕ, ◌≡◌, List, length, Ok, Err}
 use Rattle.model.specs.Lists.{filled}
-use Rattle.tables.specs.declared.Check.{Check}
-use Rattle.tables.specs.declared.Check.TheVariants as check
+use Rattle.tables.specs.Refusals.{Check}
 use Rattle.tables.specs.Layout.{task_count, table_of}
 use Rattle.tables.specs.Checks.{table_check}
 use Rattle.equation.specs.declared.Start.{Start}
@@ -15,8 +14,8 @@ use Rattle.response.specs.Analysis.{answer_of, rounds_of}
 
 -- "A refusal returns the number and the place"; otherwise the result
 abbrev pub verdict_for : Check → Verdict → Verdict
-verdict_for check.Clean result = result
-verdict_for (check.Refused refusal) result = Refused refusal
+verdict_for (Ok _) result = result
+verdict_for (Err refusal) result = Refused refusal
 
 unfoldable pub verdict_of : List ℕ → ℕ → ℕ → Verdict
 verdict_of bytes answers rounds =
@@ -24,8 +23,8 @@ verdict_of bytes answers rounds =
 
 -- "and changes no word. Otherwise words 0 to n−1 of each answer slice are written, .. later words stay"
 abbrev pub words_after : Check → List ℕ → List ℕ → List ℕ
-words_after check.Clean written old = written
-words_after (check.Refused refusal) written old = old
+words_after (Ok _) written old = written
+words_after (Err refusal) written old = old
 
 -- "answers in the first and rounds in the second"
 unfoldable pub answers_after : List ℕ → List ℕ → List ℕ → List ℕ

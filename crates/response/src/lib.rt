@@ -1,10 +1,9 @@
 // The public entry: the bytes of one table and two lent slices in, a verdict out, answers and rounds in the slices.
 #![tactic(auto)]
 
-ghost use Rattle.std.specs.Prelude.{◌≡◌, ℕ, ◌≤◌, ◌<◌, leb, length};
+ghost use Rattle.std.specs.Prelude.{◌≡◌, ℕ, ◌≤◌, ◌<◌, leb, length, Ok};
 ghost use Rattle.model.specs.Choice.{both};
 ghost use Rattle.model.specs.Lists.{filled};
-ghost use Rattle.tables.specs.declared.Check.TheVariants.{Clean};
 ghost use Rattle.tables.specs.Layout.{task_count, table_of};
 ghost use Rattle.tables.specs.Checks.{head_check};
 ghost use Rattle.records.specs.Columns.{record_columns, row_columns, Lent, TableHeld};
@@ -22,7 +21,7 @@ use reading::{
     LARGE_BYTES, LARGE_ROOM, LARGE_WORDS, ROW_ROOM, SMALL_BYTES, SMALL_ROOM, SMALL_WORDS, is_large,
 };
 use tables::fields::count;
-use tables::{Check, ONE_PERIOD, ROW_COUNT_AT, Refusal, TASK_COUNT_AT};
+use tables::{ONE_PERIOD, ROW_COUNT_AT, Refusal, TASK_COUNT_AT};
 
 // The refusal's number; 0 for schedulable, 255 for late.
 pub fn code(verdict: Verdict) -> u32
@@ -68,7 +67,7 @@ pub fn analyse_from(start: Start, table: &[u8], answers: &mut [u32], rounds: &mu
     ensures { Outcome start (lending table.now answers.old rounds.old) (leaving result answers.new rounds.new) }
 {
     let head = tables::head::check(table);
-    if let Check::Refused(refusal) = head {
+    if let Err(refusal) = head {
         return Verdict::Refused(refusal);
     }
     if is_large(table) {
@@ -79,7 +78,7 @@ pub fn analyse_from(start: Start, table: &[u8], answers: &mut [u32], rounds: &mu
 
 // Analyses a table with a right head, of at most 32 tasks: the room that versions 1 and 2 need is all that they are given.
 fn analyse_small(start: Start, table: &[u8], answers: &mut [u32], rounds: &mut [u32]) -> Verdict
-    requires { (head_check table.now ≡ Clean) × (task_count table.now ≤ 32) }
+    requires { (head_check table.now ≡ Ok tt) × (task_count table.now ≤ 32) }
     ensures { Outcome start (lending table.now answers.old rounds.old) (leaving result answers.new rounds.new) }
 {
     let mut bytes = [0u8; SMALL_BYTES];
@@ -94,7 +93,7 @@ fn analyse_small(start: Start, table: &[u8], answers: &mut [u32], rounds: &mut [
 
 // The same for the 200 tasks that version 3 may have.
 fn analyse_large(start: Start, table: &[u8], answers: &mut [u32], rounds: &mut [u32]) -> Verdict
-    requires { (head_check table.now ≡ Clean) × (task_count table.now ≤ 200) }
+    requires { (head_check table.now ≡ Ok tt) × (task_count table.now ≤ 200) }
     ensures { Outcome start (lending table.now answers.old rounds.old) (leaving result answers.new rounds.new) }
 {
     let mut bytes = [0u8; LARGE_BYTES];
@@ -118,13 +117,13 @@ fn analyse_in(
     answers: &mut [u32],
     rounds: &mut [u32],
 ) -> Verdict
-    requires table_value { head_check table.now ≡ Clean }
+    requires table_value { head_check table.now ≡ Ok tt }
     requires lent { Lent table.now room bytes.old words.old }
     requires zeros { Zeros held.old (task_count table.now) × (task_count table.now < length marks.old) }
     ensures { Outcome start (lending table.now answers.old rounds.old) (leaving result answers.new rounds.new) }
 {
     let found = reading::read(table, ONE_PERIOD, room, bytes, words);
-    if let Check::Refused(refusal) = found {
+    if let Err(refusal) = found {
         return Verdict::Refused(refusal);
     }
     let n = count(table[TASK_COUNT_AT]);

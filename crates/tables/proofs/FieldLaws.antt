@@ -1,5 +1,6 @@
 -- Checks one after another, and fields tested in order: the first that fails is the one that is refused.
 -- Assumes nothing.
+use Rattle.std.specs.Prelude.{Ok, Err}
 use Prim.Native.Nat.{ℕ, ◌+◌, ◌<◌}
 use mathlib.Core.Path.{◌≡◌, refl, sym, ◌∙◌, ap, subst}
 use mathlib.Core.Bool.{Bool, true, false}
@@ -9,81 +10,79 @@ use Rattle.model.specs.Search.{first_of, clean_count}
 use Rattle.model.proofs.Tests.{clash}
 use Rattle.model.proofs.First as first_laws
 use Rattle.tables.specs.declared.Refusal.{Refusal}
-use Rattle.tables.specs.declared.Check.{Check}
-use Rattle.tables.specs.declared.Check.TheVariants.{Clean, Refused}
-use Rattle.tables.specs.Refusals.{is_clean, unless, or_else, first_in, field_check, fields_check}
+use Rattle.tables.specs.Refusals.{Check, is_clean, unless, or_else, first_in, field_check, fields_check}
 use Rattle.tables.specs.Deserved.{Each, FirstBroken}
 
-pub clean_only : (check : Check) → is_clean check ≡ true → check ≡ Clean
-clean_only Clean p = refl
-clean_only (Refused r) p = absurd (clash false p refl)
+pub clean_only : (check : Check) → is_clean check ≡ true → check ≡ Ok tt
+clean_only (Ok _) p = refl
+clean_only (Err r) p = absurd (clash false p refl)
 
 -- checks 0 to k − 1 are clean: what a reader that takes them in turn has found where it stops
-module _ (check : ℕ → Check) (k : ℕ) (clean : first_of is_clean Clean check k ≡ Clean) where
+module _ (check : ℕ → Check) (k : ℕ) (clean : first_of is_clean (Ok tt) check k ≡ Ok tt) where
   pub stops_at : (n : ℕ) → k < n → (found : Check) → check k ≡ found → is_clean found ≡ false →
-      (found ≡ first_of is_clean Clean check n) × (clean_count is_clean Clean check n ≡ k)
+      (found ≡ first_of is_clean (Ok tt) check n) × (clean_count is_clean (Ok tt) check n ≡ k)
   stops_at n inside found is wrong = (
-    sym (first_laws.first_stop is_clean Clean refl check k clean (ap is_clean is ∙ wrong) n inside ∙ is),
-    first_laws.count_stop is_clean Clean refl check k clean (ap is_clean is ∙ wrong) n inside,
+    sym (first_laws.first_stop is_clean (Ok tt) refl check k clean (ap is_clean is ∙ wrong) n inside ∙ is),
+    first_laws.count_stop is_clean (Ok tt) refl check k clean (ap is_clean is ∙ wrong) n inside,
   )
 
-  pub goes_on : check k ≡ Clean → first_of is_clean Clean check (k + 1) ≡ Clean
-  goes_on e = first_laws.first_on is_clean Clean refl check k clean e
+  pub goes_on : check k ≡ Ok tt → first_of is_clean (Ok tt) check (k + 1) ≡ Ok tt
+  goes_on e = first_laws.first_on is_clean (Ok tt) refl check k clean e
 
-  pub goes_through : (n : ℕ) → n ≡ k → (Clean ≡ first_of is_clean Clean check n) × (clean_count is_clean Clean check n ≡ k)
-  goes_through n all = rw all (sym clean, first_laws.count_on is_clean Clean refl check k clean)
+  pub goes_through : (n : ℕ) → n ≡ k → (Ok tt ≡ first_of is_clean (Ok tt) check n) × (clean_count is_clean (Ok tt) check n ≡ k)
+  goes_through n all = rw all (sym clean, first_laws.count_on is_clean (Ok tt) refl check k clean)
 
-pub never_refused : {r : Refusal} → Clean ≡ Refused r → ⊥
+pub never_refused : {r : Refusal} → Ok (tt {0}) ≡ Err r → ⊥
 never_refused e = clash true refl (ap is_clean e)
 
 -- a check by one test
-pub unless_clean : (test : Bool) (r : Refusal) → unless test r ≡ Clean → test ≡ true
+pub unless_clean : (test : Bool) (r : Refusal) → unless test r ≡ Ok tt → test ≡ true
 unfolding unless
 unless_clean true r e = refl
 unless_clean false r e = absurd (never_refused (sym e))
 
-pub unless_refused : (test : Bool) (r s : Refusal) → unless test r ≡ Refused s → (test ≡ false) × (r ≡ s)
+pub unless_refused : (test : Bool) (r s : Refusal) → unless test r ≡ Err s → (test ≡ false) × (r ≡ s)
 unfolding unless
 unless_refused true r s e = absurd (never_refused e)
 unless_refused false r s e = (refl, cc)
 
-pub unless_pass : (test : Bool) (r : Refusal) → test ≡ true → unless test r ≡ Clean
+pub unless_pass : (test : Bool) (r : Refusal) → test ≡ true → unless test r ≡ Ok tt
 unfolding unless
 unless_pass test r p = rw p
 
-pub unless_fails : (test : Bool) (r : Refusal) → test ≡ false → unless test r ≡ Refused r
+pub unless_fails : (test : Bool) (r : Refusal) → test ≡ false → unless test r ≡ Err r
 unfolding unless
 unless_fails test r p = rw p
 
 -- two checks in a row
-pub first_clean : (check later : Check) → or_else check later ≡ Clean → (check ≡ Clean) × (later ≡ Clean)
+pub first_clean : (check later : Check) → or_else check later ≡ Ok tt → (check ≡ Ok tt) × (later ≡ Ok tt)
 unfolding or_else
-first_clean Clean later e = (refl, e)
-first_clean (Refused r) later e = absurd (never_refused (sym e))
+first_clean (Ok _) later e = (refl, e)
+first_clean (Err r) later e = absurd (never_refused (sym e))
 
-pub both_clean : (check later : Check) → check ≡ Clean → later ≡ Clean → or_else check later ≡ Clean
+pub both_clean : (check later : Check) → check ≡ Ok tt → later ≡ Ok tt → or_else check later ≡ Ok tt
 unfolding or_else
 both_clean check later p q = rw p q
 
-pub first_refused : (check later : Check) {r : Refusal} → or_else check later ≡ Refused r →
-    (check ≡ Refused r) ⊎ ((check ≡ Clean) × (later ≡ Refused r))
+pub first_refused : (check later : Check) {r : Refusal} → or_else check later ≡ Err r →
+    (check ≡ Err r) ⊎ ((check ≡ Ok tt) × (later ≡ Err r))
 unfolding or_else
-first_refused Clean later e = inr (refl, e)
-first_refused (Refused s) later e = inl e
+first_refused (Ok _) later e = inr (refl, e)
+first_refused (Err s) later e = inl e
 
-pub then_refused : (check later : Check) (r : Refusal) → check ≡ Clean → later ≡ Refused r → or_else check later ≡ Refused r
+pub then_refused : (check later : Check) (r : Refusal) → check ≡ Ok tt → later ≡ Err r → or_else check later ≡ Err r
 unfolding or_else
 then_refused check later r p q = rw p q
 
-pub stop_refused : (check later : Check) (r : Refusal) → check ≡ Refused r → or_else check later ≡ Refused r
+pub stop_refused : (check later : Check) (r : Refusal) → check ≡ Err r → or_else check later ≡ Err r
 unfolding or_else
 stop_refused check later r p = rw p
 
 -- behind the last check there is nothing
-pub last_decides : (check : Check) → or_else check Clean ≡ check
+pub last_decides : (check : Check) → or_else check (Ok tt) ≡ check
 unfolding or_else
-last_decides Clean = refl
-last_decides (Refused r) = refl
+last_decides (Ok _) = refl
+last_decides (Err r) = refl
 
 -- a rule that its test refutes does not hold, and a rule that does not hold fails its test
 pub broken : {Rule : Type 0} {test : Bool} → (Rule → test ≡ true) → test ≡ false → ¬ Rule
@@ -100,21 +99,21 @@ each_of Right every (field ∷ fields) = (every field, each_of Right every field
 
 module _ {F : Type 0} (Right : F → Type 0) (test : F → Bool) (refusal : F → Refusal) (means : (field : F) → test field ≡ true → Right field)
     (holds : (field : F) → Right field → test field ≡ true) where
-  pub fields_right : (order : List F) → fields_check test refusal order ≡ Clean → Each Right order
+  pub fields_right : (order : List F) → fields_check test refusal order ≡ Ok tt → Each Right order
   unfolding fields_check first_in
   fields_right [] e = tt
   fields_right (field ∷ fields) e =
       let a = first_clean (field_check test refusal field) _ e in
       (means field (unless_clean _ _ a.0), fields_right fields a.1)
 
-  pub fields_clean : (order : List F) → Each Right order → fields_check test refusal order ≡ Clean
+  pub fields_clean : (order : List F) → Each Right order → fields_check test refusal order ≡ Ok tt
   unfolding fields_check first_in
   fields_clean [] each = refl
   fields_clean (field ∷ fields) each =
       both_clean _ _ (unless_pass (test field) _ (holds field each.0)) (fields_clean fields each.1)
 
   -- a refusal is that of the first broken field
-  pub fields_refused : (order : List F) (r : Refusal) → fields_check test refusal order ≡ Refused r →
+  pub fields_refused : (order : List F) (r : Refusal) → fields_check test refusal order ≡ Err r →
       (field : F) × FirstBroken Right order field × (r ≡ refusal field)
   unfolding fields_check first_in
   fields_refused [] r e = absurd (never_refused e)
@@ -139,7 +138,7 @@ module _ {F : Type 0} (Right : F → Type 0) (test : F → Bool) (refusal : F �
       ]
 
   behind : (before after : List F) (field : F) → Each Right before → ¬ Right field →
-      fields_check test refusal (before ++ (field ∷ after)) ≡ Refused (refusal field)
+      fields_check test refusal (before ++ (field ∷ after)) ≡ Err (refusal field)
   unfolding fields_check first_in
   behind [] after field kept wrong =
       stop_refused _ _ (refusal field) (unless_fails (test field) _ (fails (test field) (means field) wrong))
@@ -147,9 +146,9 @@ module _ {F : Type 0} (Right : F → Type 0) (test : F → Bool) (refusal : F �
       then_refused _ _ (refusal field) (unless_pass (test first) _ (holds first kept.0)) (behind before after field kept.1 wrong)
 
   -- the first broken field is refused
-  pub broken_refused : (order : List F) (field : F) → FirstBroken Right order field → fields_check test refusal order ≡ Refused (refusal field)
+  pub broken_refused : (order : List F) (field : F) → FirstBroken Right order field → fields_check test refusal order ≡ Err (refusal field)
   broken_refused order field b =
-      subst (λ (o : List F). fields_check test refusal o ≡ Refused (refusal field)) (sym b.stands)
+      subst (λ (o : List F). fields_check test refusal o ≡ Err (refusal field)) (sym b.stands)
       (behind b.before b.after field b.kept b.broken)
 
 -- the same by the tests alone: those before the first that fails pass
@@ -158,12 +157,12 @@ module _ {F : Type 0} (test : F → Bool) (refusal : F → Refusal) where
   Passes field = test field ≡ true
 
   pub tests_fail : (before after : List F) (field : F) → Each Passes before → test field ≡ false →
-      fields_check test refusal (before ++ (field ∷ after)) ≡ Refused (refusal field)
+      fields_check test refusal (before ++ (field ∷ after)) ≡ Err (refusal field)
   tests_fail before after field kept wrong =
       behind Passes test refusal (λ f p. p) (λ f p. p) before after field kept (λ p. clash (test field) p wrong)
 
-  pub tests_pass : (order : List F) → Each Passes order → fields_check test refusal order ≡ Clean
+  pub tests_pass : (order : List F) → Each Passes order → fields_check test refusal order ≡ Ok tt
   tests_pass order kept = fields_clean Passes test refusal (λ f p. p) (λ f p. p) order kept
 
-  pub tests_passed : (order : List F) → fields_check test refusal order ≡ Clean → Each Passes order
+  pub tests_passed : (order : List F) → fields_check test refusal order ≡ Ok tt → Each Passes order
   tests_passed order e = fields_right Passes test refusal (λ f p. p) (λ f p. p) order e

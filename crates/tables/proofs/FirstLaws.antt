@@ -1,6 +1,7 @@
 -- Bytes whose first five are the same, and whose length no table with such a head has, are refused alike; so a table is judged by its first
 -- 4,590 bytes.
 -- Assumes nothing.
+use Rattle.std.specs.Prelude.{Err}
 use Prim.Native.Nat.{ℕ, ◌≤◌}
 use native.Mathlib.Omega.{arith}
 use native.Mathlib.Nat.{mul-le-mul}
@@ -18,7 +19,6 @@ use Rattle.model.proofs.Tests.{bool?, both_fail}
 use Rattle.tables.specs.declared.layout.Layout.{Layout}
 use Rattle.tables.specs.declared.Refusal.{Refusal}
 use Rattle.tables.specs.declared.Refusal.TheVariants.{UnknownVersion, CountOutOfRange, LengthsDiffer}
-use Rattle.tables.specs.declared.Check.TheVariants.{Refused}
 use Rattle.tables.specs.Layout.{layout_for, layout_of, task_count, row_count, stated_length, length_for}
 use Rattle.tables.specs.Refusals.{offset}
 use Rattle.tables.specs.Rules.{between, lengths_agree}
@@ -49,7 +49,7 @@ head_refusal layout n m =
     UnknownVersion
 
 module _ (bytes : List ℕ) (long : 5 ≤ length bytes) (wrong : Counted bytes → lengths_agree bytes ≡ false) where
-  head_refused : head_check bytes ≡ Refused (head_refusal (layout_of bytes) (task_count bytes) (row_count bytes))
+  head_refused : head_check bytes ≡ Err (head_refusal (layout_of bytes) (task_count bytes) (row_count bytes))
   unfolding head_refusal
   head_refused =
       elim (bool? (layout_of bytes).known) [
@@ -92,7 +92,7 @@ module _ (count : ℕ) (bytes : List ℕ) (five : 5 ≤ count) where
       record {
         refusal = head_refusal (layout_of bytes) (task_count bytes) (row_count bytes);
         one = head_refused bytes (omega (arith, five, long)) whole;
-        other = head_refused (take count bytes) (omega (arith, five, long, length-take count bytes)) part ∙ ap Refused same;
+        other = head_refused (take count bytes) (omega (arith, five, long, length-take count bytes)) part ∙ ap Err same;
       }
 
 -- no table is so long
@@ -109,7 +109,7 @@ long_alike bytes long =
 
 -- So whatever is said of a table is said of its first 4,590 bytes, if a refusal of the head decides it.
 pub kept_alike : {A : Type 0} (said : List ℕ → A) (refused : Refusal → A) →
-    ((bytes : List ℕ) (refusal : Refusal) → head_check bytes ≡ Refused refusal → said bytes ≡ refused refusal) → (bytes : List ℕ) →
+    ((bytes : List ℕ) (refusal : Refusal) → head_check bytes ≡ Err refusal → said bytes ≡ refused refusal) → (bytes : List ℕ) →
     said (kept_of bytes) ≡ said bytes
 kept_alike said refused decides bytes =
     elim (dec_le (length bytes) 4590) [

@@ -1,5 +1,6 @@
 -- The first five bytes: which refusal the tests lead to.
 -- Assumes nothing.
+use Rattle.std.specs.Prelude.{Ok, Err}
 use Prim.Native.Nat.{ℕ, ◌+◌, ◌*◌, ◌≤◌, ◌<◌}
 use native.Mathlib.Omega.{arith}
 use mathlib.Core.Path.{◌≡◌, sym, ◌∙◌, ap, subst}
@@ -10,7 +11,6 @@ use lib.ListN.{length}
 use borrow.Author.Tests.{le-leb, lt-leb, eq-eqb, ne_eqb}
 use Rattle.model.proofs.Tests.{both_fail}
 use Rattle.tables.specs.declared.layout.Layout.{Layout}
-use Rattle.tables.specs.declared.Check.TheVariants.{Clean, Refused}
 use Rattle.tables.specs.declared.Refusal.{Refusal}
 use Rattle.tables.specs.declared.Refusal.TheVariants.{TooShort, UnknownVersion, CountOutOfRange, LengthsDiffer}
 use Rattle.tables.specs.Layout.{layout_of, task_count, row_count, stated_length, length_for, Sound}
@@ -21,7 +21,7 @@ use Rattle.tables.proofs.LayoutLaws.{known_means, layout_sound, start_small}
 use Rattle.tables.proofs.MeaningLaws.{between_means}
 
 module _ (bytes : List ℕ) where
-  pub head_short : length bytes < 5 → Refused TooShort ≡ head_check bytes
+  pub head_short : length bytes < 5 → Err TooShort ≡ head_check bytes
   unfolding first_in head_check unless or_else
   head_short h = rw (lt-leb 5 (length bytes) h)
 
@@ -29,12 +29,12 @@ module _ (bytes : List ℕ) where
     knows : {known : Bool} → layout.known ≡ known → (layout_of bytes).known ≡ known
     knows h = sym (ap (λ (l : Layout). l.known) decided) ∙ h
 
-    pub head_version : layout.known ≡ false → Refused UnknownVersion ≡ head_check bytes
+    pub head_version : layout.known ≡ false → Err UnknownVersion ≡ head_check bytes
     unfolding first_in head_check unless or_else
     head_version h = rw (le-leb 5 (length bytes) long, knows h)
 
     module _ (version : layout.known ≡ true) where
-      head_counts : (r : Refusal) → counts_check bytes ≡ Refused r → Refused r ≡ head_check bytes
+      head_counts : (r : Refusal) → counts_check bytes ≡ Err r → Err r ≡ head_check bytes
       unfolding first_in head_check unless or_else
       head_counts r h = rw (le-leb 5 (length bytes) long, knows version, h)
 
@@ -44,28 +44,28 @@ module _ (bytes : List ℕ) where
           sym (ap (between 1 (layout_of bytes).most) tasks) ∙ sym (ap (λ (l : Layout). between 1 l.most n) decided) ∙ h
 
       -- n is out of range
-      pub head_tasks : (n : ℕ) → n ≡ task_count bytes → between 1 layout.most n ≡ false → Refused (CountOutOfRange (offset 3)) ≡ head_check bytes
+      pub head_tasks : (n : ℕ) → n ≡ task_count bytes → between 1 layout.most n ≡ false → Err (CountOutOfRange (offset 3)) ≡ head_check bytes
       unfolding counts_check fields_check first_in unless or_else count_test
       head_tasks n e h = head_counts (CountOutOfRange (offset 3)) (rw (n_test e h))
 
       -- n is in range, and m is not
       pub head_rows : (n m : ℕ) → n ≡ task_count bytes → m ≡ row_count bytes → between 1 layout.most n ≡ true → between 0 64 m ≡ false →
-          Refused (CountOutOfRange (offset 4)) ≡ head_check bytes
+          Err (CountOutOfRange (offset 4)) ≡ head_check bytes
       unfolding counts_check fields_check first_in unless or_else count_test
       head_rows n m tasks rows n_fits h =
           head_counts (CountOutOfRange (offset 4)) (rw (n_test tasks n_fits, sym (ap (between 0 64) rows) ∙ h))
 
       module _ (n m : ℕ) (tasks : n ≡ task_count bytes) (rows : m ≡ row_count bytes) (n_fits : between 1 layout.most n ≡ true)
           (m_fits : between 0 64 m ≡ true) where
-        counts : counts_check bytes ≡ Clean
+        counts : counts_check bytes ≡ Ok tt
         unfolding counts_check fields_check first_in unless or_else count_test
         counts = rw (n_test tasks n_fits, sym (ap (between 0 64) rows) ∙ m_fits)
 
-        pub head_lengths : lengths_agree bytes ≡ false → Refused LengthsDiffer ≡ head_check bytes
+        pub head_lengths : lengths_agree bytes ≡ false → Err LengthsDiffer ≡ head_check bytes
         unfolding first_in head_check unless or_else
         head_lengths h = rw (le-leb 5 (length bytes) long, knows version, counts, h)
 
-        pub head_stated : (stated_length bytes ≡ length bytes → ⊥) → Refused LengthsDiffer ≡ head_check bytes
+        pub head_stated : (stated_length bytes ≡ length bytes → ⊥) → Err LengthsDiffer ≡ head_check bytes
         unfolding lengths_agree
         head_stated h = head_lengths (rw (ne_eqb (stated_length bytes) (length bytes) h))
 
@@ -76,14 +76,14 @@ module _ (bytes : List ℕ) where
             ∙ ap (λ (t : ℕ). length_for (layout_of bytes) t m) tasks
             ∙ ap (length_for (layout_of bytes) (task_count bytes)) rows
 
-        pub head_summed : (5 + layout.size * n + 6 * m ≡ length bytes → ⊥) → Refused LengthsDiffer ≡ head_check bytes
+        pub head_summed : (5 + layout.size * n + 6 * m ≡ length bytes → ⊥) → Err LengthsDiffer ≡ head_check bytes
         unfolding lengths_agree
         head_summed h =
             head_lengths
             (both_fail (eqb (stated_length bytes) (length bytes)) _
             (ne_eqb (length_for (layout_of bytes) (task_count bytes) (row_count bytes)) (length bytes) (λ e. h (summed_is ∙ e))))
 
-        pub head_clean : stated_length bytes ≡ length bytes → 5 + layout.size * n + 6 * m ≡ length bytes → Clean ≡ head_check bytes
+        pub head_clean : stated_length bytes ≡ length bytes → 5 + layout.size * n + 6 * m ≡ length bytes → Ok tt ≡ head_check bytes
         unfolding first_in head_check lengths_agree unless or_else
         head_clean stated summed =
             rw (

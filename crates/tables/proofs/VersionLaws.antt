@@ -1,6 +1,7 @@
 -- Versions 2 and 3 have one layout but for the greatest number of tasks: with no more than 32 of them, the same bytes in either version mean
 -- the same table, and get the same refusal or none.
 -- Assumes nothing.
+use Rattle.std.specs.Prelude.{Ok}
 use Prim.Native.Nat.{ℕ, zero, suc, ◌+◌, ◌-◌, ◌*◌, ◌≤◌}
 use native.Mathlib.Omega.{arith}
 use mathlib.Core.Path.{◌≡◌, refl, sym, ◌∙◌, ap}
@@ -11,7 +12,6 @@ use borrow.Author.Tests.{le-leb}
 use Rattle.model.specs.Choice.{both, either}
 use Rattle.model.specs.Lists.{tabulate}
 use Rattle.model.specs.Search.{first_of}
-use Rattle.tables.specs.declared.Check.TheVariants.{Clean}
 use Rattle.tables.specs.Fields.{RecordField, period_field, cost_field, deadline_field, earliest_field, latest_field, priority_field, record_order, record_refusal, row_order, refusal_in_row}
 use Rattle.tables.specs.Layout.{version_two, version_three, version_of, layout_for, byte_at, word_at, record_start, row_start, task_count, row_count, task_at, row_at, table_of}
 use Rattle.tables.specs.Refusals.{is_clean, first_in, fields_check}
@@ -104,8 +104,8 @@ module _ (rest : List ℕ) where
   body_same span =
       λ j.
       first_in
-      (first_of is_clean Clean (λ (i : ℕ). record_same span i j) (task_count two)
-      ∷ first_of is_clean Clean (λ (k : ℕ). row_same k j) (row_count two)
+      (first_of is_clean (Ok tt) (λ (i : ℕ). record_same span i j) (task_count two)
+      ∷ first_of is_clean (Ok tt) (λ (k : ℕ). row_same k j) (row_count two)
       ∷ [])
 
   room_same : (answers rounds : ℕ) → room_check two answers rounds ≡ room_check three answers rounds

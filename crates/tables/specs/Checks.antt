@@ -1,13 +1,11 @@
 -- The refusals, as a list of checks in their order (SPECIFICATION 3.1; document 01, "Refusals").
 -- Assumes nothing.
-use Rattle.std.specs.Prelude.{ℕ, Bool, List, [], ◌∷◌, leb, length}
+use Rattle.std.specs.Prelude.{ℕ, Bool, List, [], ◌∷◌, leb, length, Ok}
 use Rattle.model.specs.Choice.{both}
 use Rattle.model.specs.Search.{first_of, clean_count}
 use Rattle.tables.specs.declared.Refusal.TheVariants.{TooShort, UnknownVersion, LengthsDiffer, NoRoom}
-use Rattle.tables.specs.declared.Check.{Check}
-use Rattle.tables.specs.declared.Check.TheVariants.{Clean}
 use Rattle.tables.specs.Layout.{head_size, layout_of, task_count, row_count, task_at, row_at, cost_in}
-use Rattle.tables.specs.Refusals.{is_clean, unless, fields_check, first_in}
+use Rattle.tables.specs.Refusals.{Check, is_clean, unless, fields_check, first_in}
 use Rattle.tables.specs.Fields.{count_order, count_refusal, record_order, refusal_in_record, RowField, row_order, refusal_in_row}
 use Rattle.tables.specs.Rules.{count_test, lengths_agree, priority_fits, record_test, row_in_order, row_test}
 
@@ -43,11 +41,11 @@ head_check bytes = first_in (head_checks bytes)
 
 -- refusals 5 and 6, of the records in order
 unfoldable pub records_check : ℕ → List ℕ → Check
-records_check span bytes = first_of is_clean Clean (record_check span bytes) (task_count bytes)
+records_check span bytes = first_of is_clean (Ok tt) (record_check span bytes) (task_count bytes)
 
 -- refusal 7, of the rows in order
 unfoldable pub rows_check : List ℕ → Check
-rows_check bytes = first_of is_clean Clean (row_check bytes) (row_count bytes)
+rows_check bytes = first_of is_clean (Ok tt) (row_check bytes) (row_count bytes)
 
 -- refusals 5 to 7, of all that stands behind the head: "then the rows in order for 7"
 unfoldable pub body_check : ℕ → List ℕ → Check
@@ -72,7 +70,7 @@ table_check bytes answers rounds = table_check_spanning 1 bytes answers rounds
 
 -- how many records, and how many rows, are read before a fault or the end
 abbrev pub records_read : ℕ → List ℕ → ℕ
-records_read span bytes = clean_count is_clean Clean (record_check span bytes) (task_count bytes)
+records_read span bytes = clean_count is_clean (Ok tt) (record_check span bytes) (task_count bytes)
 
 abbrev pub rows_read : List ℕ → ℕ
-rows_read bytes = clean_count is_clean Clean (row_check bytes) (row_count bytes)
+rows_read bytes = clean_count is_clean (Ok tt) (row_check bytes) (row_count bytes)

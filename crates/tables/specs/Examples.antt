@@ -1,10 +1,8 @@
 -- Places counted by hand: for each version a table that is not refused, for each field a byte that makes it the first at fault, and
 -- for each two that are tested one behind the other a table in which both are (SPECIFICATION 3; document 02, L3, L4, L6 and L9).
 -- Assumes nothing.
-use Rattle.std.specs.Prelude.{ℕ, ◌≡◌, List, [], ◌∷◌, map, set}
-use Rattle.tables.specs.declared.Check.{Check}
-use Rattle.tables.specs.declared.Check.TheVariants.{Clean, Refused}
-use Rattle.tables.specs.Refusals.{number_of, place_of}
+use Rattle.std.specs.Prelude.{ℕ, ◌≡◌, List, [], ◌∷◌, map, set, Ok, Err}
+use Rattle.tables.specs.Refusals.{Check, number_of, place_of}
 use Rattle.tables.specs.Checks.{table_check, table_check_spanning}
 
 -- version 1: two tasks, (9, 5, 9) and (30, 4, 30), and two rows; the second record begins at byte 22, the second row at byte 45
@@ -152,8 +150,8 @@ pairs_three = faults (write 3 201) (write 4 65) 3 3 ∷ field_pairs
 
 -- the number and the place that are told, and nothing where the table is clean
 abbrev pub told : Check → List ℕ
-told Clean = []
-told (Refused refusal) = number_of refusal ∷ place_of refusal ∷ []
+told (Ok _) = []
+told (Err refusal) = number_of refusal ∷ place_of refusal ∷ []
 
 abbrev pub told_of : List ℕ → Change → List ℕ
 told_of table c = told (table_check (changed table c.writes) 2 2)
@@ -182,22 +180,22 @@ abbrev pub too_long : List ℕ
 too_long = set longest 34 65
 
 pub record PlacesDrawn : Type 0 where
-  pub clean : table_check right 2 2 ≡ Clean
+  pub clean : table_check right 2 2 ≡ Ok tt
   pub places : map (told_of right) changes ≡ map wanted_of changes
   -- "taken as T, C, D, J, priority, and in a row place, semaphore, length, then row order": the earlier of two faults is told
   pub two_faults : map (told_of right) pairs ≡ map wanted_of pairs
   -- "Records may now repeat a priority", in every version
-  pub tied_clean : table_check tied 2 2 ≡ Clean
-  pub clean_two : table_check right_two 2 2 ≡ Clean
+  pub tied_clean : table_check tied 2 2 ≡ Ok tt
+  pub clean_two : table_check right_two 2 2 ≡ Ok tt
   pub places_two : map (told_of right_two) changes_two ≡ map wanted_of changes_two
   pub two_faults_two : map (told_of right_two) pairs_two ≡ map wanted_of pairs_two
-  pub clean_three : table_check right_three 2 2 ≡ Clean
+  pub clean_three : table_check right_three 2 2 ≡ Ok tt
   pub places_three : map (told_of right_three) changes_three ≡ map wanted_of changes_three
   pub two_faults_three : map (told_of right_three) pairs_three ≡ map wanted_of pairs_three
-  pub tied_two_clean : table_check tied_two 2 2 ≡ Clean
+  pub tied_two_clean : table_check tied_two 2 2 ≡ Ok tt
   -- a deadline past the period is refused where it may span one, and right where it may span four: up to 4 T, and to 1,000,000
   pub past_period : told (table_check four_periods 2 2) ≡ 5 ∷ 31 ∷ []
-  pub spans_four : table_check_spanning 4 four_periods 2 2 ≡ Clean
+  pub spans_four : table_check_spanning 4 four_periods 2 2 ≡ Ok tt
   pub past_four : told (table_check_spanning 4 longer 2 2) ≡ 5 ∷ 31 ∷ []
-  pub longest_right : table_check_spanning 4 longest 2 2 ≡ Clean
+  pub longest_right : table_check_spanning 4 longest 2 2 ≡ Ok tt
   pub past_longest : told (table_check_spanning 4 too_long 2 2) ≡ 5 ∷ 31 ∷ []

@@ -1,13 +1,11 @@
 -- The number and the place of each refusal (SPECIFICATION 3.2 and 3.3; document 01, "Refusals"; the places as document 02, L3, amends
 -- them).
 -- Assumes nothing.
-use Rattle.std.specs.Prelude.{ℕ, Bool, true, false, List, [], ◌∷◌, map}
+use Rattle.std.specs.Prelude.{ℕ, Bool, true, false, List, [], ◌∷◌, map, Ok, Err, Result}
 use Rattle.model.specs.declared.Place.{Place}
 use Rattle.tables.specs.declared.Offset.{Offset}
 use Rattle.tables.specs.declared.Refusal.{Refusal}
 use Rattle.tables.specs.declared.Refusal.TheVariants.{TooShort, UnknownVersion, CountOutOfRange, LengthsDiffer, NumberOutOfRange, PriorityOutOfOrder, SectionRow, NoRoom, NotPlayable}
-use Rattle.tables.specs.declared.Check.{Check}
-use Rattle.tables.specs.declared.Check.TheVariants.{Clean, Refused}
 
 abbrev pub number_of : Refusal → ℕ
 number_of TooShort = 1
@@ -40,23 +38,27 @@ at i = record { 0 = i }
 abbrev pub offset : ℕ → Offset
 offset i = record { 0 = i }
 
+-- what a check finds: nothing, or the refusal
+abbrev pub Check : Type 0
+Check = Result (Unit {0}) Refusal
+
 abbrev pub is_clean : Check → Bool
-is_clean Clean = true
-is_clean (Refused r) = false
+is_clean (Ok _) = true
+is_clean (Err r) = false
 
 -- clean where the test passes, and else that refusal
 unfoldable pub unless : Bool → Refusal → Check
-unless true r = Clean
-unless false r = Refused r
+unless true r = Ok tt
+unless false r = Err r
 
 -- the first check, and the second where the first is clean
 unfoldable pub or_else : Check → Check → Check
-or_else Clean second = second
-or_else (Refused r) second = Refused r
+or_else (Ok _) second = second
+or_else (Err r) second = Err r
 
 -- "the first that applies is given"
 unfoldable pub first_in : List Check → Check
-first_in [] = Clean
+first_in [] = Ok tt
 first_in (check ∷ checks) = or_else check (first_in checks)
 
 -- the check of one field, and of fields in the order in which they are tested: the refusal of the first whose test fails

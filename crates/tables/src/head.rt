@@ -4,33 +4,33 @@ ghost use Rattle.tables.specs.Checks.{head_check};
 
 use crate::fields::{count, half, within};
 use crate::{
-    Check, HEAD_SIZE, MOST_ROWS, Offset, ROW_COUNT_AT, ROW_SIZE, Refusal, TASK_COUNT_AT,
+    HEAD_SIZE, MOST_ROWS, Offset, ROW_COUNT_AT, ROW_SIZE, Refusal, TASK_COUNT_AT,
     VERSION_AT, layout,
 };
 
-pub fn check(table: &[u8]) -> Check
+pub fn check(table: &[u8]) -> Result<(), Refusal>
     ensures { result ≡ head_check table.now }
 {
     if table.len() < HEAD_SIZE {
-        return Check::Refused(Refusal::TooShort);
+        return Err(Refusal::TooShort);
     }
     let layout = layout::of(table[VERSION_AT]);
     if !layout.known {
-        return Check::Refused(Refusal::UnknownVersion);
+        return Err(Refusal::UnknownVersion);
     }
     let n = count(table[TASK_COUNT_AT]);
     let m = count(table[ROW_COUNT_AT]);
     if !within(1, layout.most, n as u32) {
-        return Check::Refused(Refusal::CountOutOfRange(Offset(TASK_COUNT_AT)));
+        return Err(Refusal::CountOutOfRange(Offset(TASK_COUNT_AT)));
     }
     if !within(0, MOST_ROWS, m as u32) {
-        return Check::Refused(Refusal::CountOutOfRange(Offset(ROW_COUNT_AT)));
+        return Err(Refusal::CountOutOfRange(Offset(ROW_COUNT_AT)));
     }
     if half(table, 1) as usize != table.len() {
-        return Check::Refused(Refusal::LengthsDiffer);
+        return Err(Refusal::LengthsDiffer);
     }
     if HEAD_SIZE + layout.size * n + ROW_SIZE * m != table.len() {
-        return Check::Refused(Refusal::LengthsDiffer);
+        return Err(Refusal::LengthsDiffer);
     }
-    Check::Clean
+    Ok(())
 }

@@ -2,7 +2,7 @@
 #![tactic(auto)]
 
 ghost use Rattle.std.specs.Prelude.{◌≡◌};
-ghost use Rattle.tables.specs.Refusals.{number_of, place_of, is_clean};
+ghost use Rattle.tables.specs.Refusals.{number_of, place_of};
 
 pub mod fields;
 pub mod head;
@@ -58,12 +58,12 @@ pub const ONE_PERIOD: u32 = 1;
 pub const FOUR_PERIODS: u32 = 4;
 
 // A byte's place in the table, counted from its first byte. It is no task's place.
-#[derive(Clone, Copy)]
+#[derive(Clone, Copy, Debug, PartialEq, Eq)]
 pub struct Offset(pub usize);
 
 // Why a table is refused (SPECIFICATION 3; document 01, "Refusals"), and where a field is at fault its first byte (document 02, L3). The
 // last one is the engine's (SPECIFICATION 9; document 02, L1 and L6): the analysis never gives it.
-#[derive(Clone, Copy)]
+#[derive(Clone, Copy, Debug, PartialEq, Eq)]
 pub enum Refusal {
     TooShort,
     UnknownVersion,
@@ -74,23 +74,6 @@ pub enum Refusal {
     SectionRow(Offset),
     NoRoom,
     NotPlayable,
-}
-
-// What a check finds.
-#[derive(Clone, Copy)]
-pub enum Check {
-    Clean,
-    Refused(Refusal),
-}
-
-// Was nothing found?
-pub fn is_clean(check: Check) -> bool
-    ensures { result ≡ is_clean check }
-{
-    match check {
-        Check::Clean => true,
-        Check::Refused(_) => false,
-    }
 }
 
 // The refusal's number (SPECIFICATION 3.2).

@@ -1,15 +1,14 @@
 -- A table that is not refused: its form is given, and its bytes are those of what it means.
 -- Assumes nothing.
+use Rattle.std.specs.Prelude.{Ok}
 use Prim.Native.Nat.{ℕ, ◌*◌, ◌≤◌}
 use native.Mathlib.Omega.{arith}
 use native.Mathlib.Nat.{mul-le-mul}
 use mathlib.Core.Path.{◌≡◌, refl, sym, ap}
 use mathlib.Core.List.{List}
 use Rattle.model.specs.Tables.{Task}
-use Rattle.tables.specs.declared.Check.{Check}
-use Rattle.tables.specs.declared.Check.TheVariants.{Clean}
 use Rattle.tables.specs.Checks.{head_check, body_check, read_check, table_check_spanning}
-use Rattle.tables.specs.Refusals.{first_in}
+use Rattle.tables.specs.Refusals.{Check, first_in}
 use Rattle.tables.specs.Fields.{RecordField, period_field, cost_field, deadline_field, earliest_field, latest_field, priority_field}
 use Rattle.tables.specs.Layout.{task_count, task_at}
 use Rattle.tables.specs.Meaning.{TaskFieldRight, TableRightSpanning}
@@ -23,7 +22,7 @@ pub only_bytes_spanning : OnlyBytesSpanning
 only_bytes_spanning span bytes are right = only_bytes_law bytes are right.head
 
 -- nothing is found in reading a table that breaks no rule
-read_nothing : (span : ℕ) (bytes : List ℕ) → TableRightSpanning span bytes → read_check span bytes ≡ Clean
+read_nothing : (span : ℕ) (bytes : List ℕ) → TableRightSpanning span bytes → read_check span bytes ≡ Ok tt
 unfolding read_check table_check_spanning first_in
 read_nothing span bytes right =
     let n = task_count bytes in

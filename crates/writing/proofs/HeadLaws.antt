@@ -1,5 +1,6 @@
 -- What a right head says of the records and the rows behind it: each is there, and is the table's.
 -- Assumes nothing.
+use Rattle.std.specs.Prelude.{Ok}
 use Prim.Native.Nat.{ℕ, ◌+◌, ◌*◌, ◌≤◌, ◌<◌}
 use native.Mathlib.Omega.{arith}
 use mathlib.Core.Path.{◌≡◌, ◌∙◌, ap}
@@ -7,7 +8,6 @@ use mathlib.Core.List.{List}
 use lib.ListN.{length, replicate, length-replicate}
 use Rattle.model.specs.Tables.{Task, Row}
 use Rattle.tables.specs.declared.layout.Layout.{Layout}
-use Rattle.tables.specs.declared.Check.TheVariants.{Clean}
 use Rattle.tables.specs.Layout.{layout_of, task_count, row_count, record_from, row_from, record_start, row_start, task_at, row_at}
 use Rattle.tables.specs.Checks.{head_check}
 use Rattle.tables.proofs.LayoutLaws.{record_inside, start_small}
@@ -17,7 +17,7 @@ use Rattle.records.proofs.ColumnLaws.{sound, few_tasks_law, few_rows_law, rows_e
 use Rattle.reading.proofs.HeldLaws.{large_fits}
 
 -- columns for 200 tasks have room for any table
-pub columns_lent : (table : List ℕ) → head_check table ≡ Clean → {bytes words : ℕ} → bytes ≡ 328 → words ≡ 1064 →
+pub columns_lent : (table : List ℕ) → head_check table ≡ Ok tt → {bytes words : ℕ} → bytes ≡ 328 → words ≡ 1064 →
     Lent table 200 (replicate bytes 0) (replicate words 0)
 columns_lent table clean {bytes} {words} b w =
     record {
@@ -26,7 +26,7 @@ columns_lent table clean {bytes} {words} b w =
       words_long = length-replicate {A = ℕ} words 0 ∙ w;
     }
 
-pub head_read : {bytes : List ℕ} {layout : Layout} {n : ℕ} → head_check bytes ≡ Clean → layout ≡ layout_of bytes → n ≡ task_count bytes →
+pub head_read : {bytes : List ℕ} {layout : Layout} {n : ℕ} → head_check bytes ≡ Ok tt → layout ≡ layout_of bytes → n ≡ task_count bytes →
     HeadRead bytes layout n
 head_read clean decided counted = record { head = clean; decided = decided; counted = counted }
 

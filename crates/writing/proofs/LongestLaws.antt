@@ -1,5 +1,6 @@
 -- The longest form: how long each line can be, and that the form of a table that is not refused, or the line of a refusal, is no longer.
 -- Assumes nothing.
+use Rattle.std.specs.Prelude.{Ok, Err}
 use Prim.Native.Nat.{ℕ, suc, ◌*◌, ◌≤◌, ◌<◌}
 use native.Mathlib.Omega.{arith}
 use mathlib.Core.Path.{◌≡◌, refl, sym}
@@ -8,8 +9,7 @@ use mathlib.Core.List.{List, [], ◌∷◌, ◌++◌}
 use lib.ListN.{length, get_or, length-append}
 use Rattle.model.specs.Tables.{Task, Row, Table, no_task, task_of}
 use Rattle.model.proofs.Tests.{eqb?}
-use Rattle.tables.specs.declared.Check.{Check}
-use Rattle.tables.specs.declared.Check.TheVariants.{Clean, Refused}
+use Rattle.tables.specs.Refusals.{Check}
 use Rattle.tables.specs.Fields.{task_count_field, row_count_field, period_field, cost_field, deadline_field, earliest_field, latest_field, place_field, semaphore_field, longest_field}
 use Rattle.tables.specs.Layout.{version_of, task_count, row_count, task_at, row_at, table_of}
 use Rattle.tables.specs.Checks.{read_check}
@@ -189,10 +189,10 @@ unfolding form_text
 form_fits bytes are = go (read_check 4 bytes) refl
   where
     go : (found : Check) → read_check 4 bytes ≡ found → length (form_or_refusal found bytes) ≤ longest_form
-    go Clean is =
+    go (Ok _) is =
         let clean = read_clean 4 bytes is in
         right_long bytes are (read_right 4 bytes clean.0 clean.1)
-    go (Refused refusal) is =
+    go (Err refusal) is =
         let deserved = table_deserved 4 bytes 200 200 refusal (read_decides 4 bytes 200 200 refusal (sym is)) in
         omega (arith, refused_long refusal (refusal_place 4 bytes 200 200 refusal deserved))
 

@@ -1,10 +1,9 @@
 -- The text form of a table (SPECIFICATION 14): what its bytes say, in words and decimal numbers, a line for each task and each section.
 -- Assumes nothing.
-use Rattle.std.specs.Prelude.{ℕ, List, [], ◌++◌, eqb}
+use Rattle.std.specs.Prelude.{ℕ, List, [], ◌++◌, eqb, Ok, Err}
 use Rattle.model.specs.Choice.{pick}
 use Rattle.model.specs.Tables.{Task, Row, Table}
-use Rattle.tables.specs.declared.Check.{Check}
-use Rattle.tables.specs.declared.Check.TheVariants.{Clean, Refused}
+use Rattle.tables.specs.Refusals.{Check}
 use Rattle.tables.specs.Layout.{version_of, table_of}
 use Rattle.tables.specs.Checks.{read_check}
 use Rattle.encoding.specs.Bytes.{joined}
@@ -49,8 +48,8 @@ form_of version table =
 
 -- A table that is refused has no text form, and gets the one line of its refusal.
 abbrev pub form_or_refusal : Check → List ℕ → List ℕ
-form_or_refusal Clean bytes = form_of (version_of bytes) (table_of bytes)
-form_or_refusal (Refused refusal) bytes = refused_line refusal
+form_or_refusal (Ok _) bytes = form_of (version_of bytes) (table_of bytes)
+form_or_refusal (Err refusal) bytes = refused_line refusal
 
 -- The text for any bytes. A deadline may span up to four periods, so that every table has its form that either analysis accepts.
 unfoldable pub form_text : List ℕ → List ℕ

@@ -2,8 +2,7 @@
 // is built in a lent buffer, so that a program writes it in one call.
 #![tactic(auto)]
 
-ghost use Rattle.std.specs.Prelude.{◌≡◌};
-ghost use Rattle.tables.specs.declared.Check.TheVariants.{Clean};
+ghost use Rattle.std.specs.Prelude.{◌≡◌, Ok};
 ghost use Rattle.tables.specs.Layout.{version_of, tasks_of, rows_of, table_of};
 ghost use Rattle.tables.specs.Checks.{head_check, read_check};
 ghost use Rattle.encoding.specs.Bytes.{joined};
@@ -19,7 +18,7 @@ use reading::{LARGE_BYTES, LARGE_ROOM, LARGE_WORDS, rows};
 use records::TaskRecord;
 use tables::fields::{count, wide};
 use tables::{
-    Check, FOUR_PERIODS, HEAD_SIZE, ROW_COUNT_AT, ROW_SIZE, TASK_COUNT_AT, VERSION_AT, layout,
+    FOUR_PERIODS, HEAD_SIZE, ROW_COUNT_AT, ROW_SIZE, Refusal, TASK_COUNT_AT, VERSION_AT, layout,
 };
 
 // Bytes enough for the text of any table, and for the longest no more than enough: `longest_form` of specs/Longest.antt.
@@ -31,19 +30,16 @@ pub fn form_text(table: &[u8], out: &mut [u8]) -> usize
 {
     let checked = check(table);
     match checked {
-        Check::Refused(refusal) => refused(out, 0, refusal),
-        Check::Clean => form(out, 0, table),
+        Err(refusal) => refused(out, 0, refusal),
+        Ok(()) => form(out, 0, table),
     }
 }
 
 // What is found in reading the table: refusals 1 to 7, or nothing. A deadline may span four periods.
-fn check(table: &[u8]) -> Check
+fn check(table: &[u8]) -> Result<(), Refusal>
     ensures { result ≡ read_check 4 table.now }
 {
-    let head = tables::head::check(table);
-    if let Check::Refused(_) = head {
-        return head;
-    }
+    tables::head::check(table)?;
     let mut bytes = [0u8; LARGE_BYTES];
     let mut words = [0u32; LARGE_WORDS];
     reading::read(table, FOUR_PERIODS, LARGE_ROOM, &mut bytes, &mut words)
@@ -51,7 +47,7 @@ fn check(table: &[u8]) -> Check
 
 // Appends the text form of a table with a right head.
 fn form(out: &mut [u8], at: usize, table: &[u8]) -> usize
-    requires { head_check table.now ≡ Clean }
+    requires { head_check table.now ≡ Ok tt }
     ensures { Appended out.old at (form_of (version_of table.now) (table_of table.now)) result out.new }
 {
     let commented = append(
@@ -67,7 +63,7 @@ fn form(out: &mut [u8], at: usize, table: &[u8]) -> usize
 
 // The tasks' lines.
 fn tasks(out: &mut [u8], at: usize, table: &[u8]) -> usize
-    requires { head_check table.now ≡ Clean }
+    requires { head_check table.now ≡ Ok tt }
     ensures { Appended out.old at (joined task_line (tasks_of table.now)) result out.new }
 {
     let layout = layout::of(table[VERSION_AT]);
@@ -115,7 +111,7 @@ fn delays(out: &mut [u8], at: usize, earliest: Ticks, latest: Ticks) -> usize
 
 // The sections' lines.
 fn sections(out: &mut [u8], at: usize, table: &[u8]) -> usize
-    requires { head_check table.now ≡ Clean }
+    requires { head_check table.now ≡ Ok tt }
     ensures { Appended out.old at (joined section_line (rows_of table.now)) result out.new }
 {
     let layout = layout::of(table[VERSION_AT]);
