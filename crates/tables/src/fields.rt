@@ -7,14 +7,14 @@ ghost use Rattle.tables.specs.Rules.{between};
 pub fn wide(byte: u8) -> u32
     ensures { (result ≡ byte) × (result < 256) }
 {
-    byte as u32
+    u32::from(byte)
 }
 
 // A byte as an index or a count, with its range.
 pub fn count(byte: u8) -> usize
     ensures { (result ≡ byte) × (result < 256) }
 {
-    byte as usize
+    usize::from(byte)
 }
 
 // The two bytes from `at` on.
@@ -22,7 +22,7 @@ pub fn half(table: &[u8], at: usize) -> u32
     requires { at + 2 ≤ length table.now }
     ensures { result ≡ half_at table.now at }
 {
-    wide(table[at]) * 256 + wide(table[at + 1])
+    u32::from(u16::from_be_bytes([table[at], table[at + 1]]))
 }
 
 // The four bytes from `at` on.
@@ -30,18 +30,12 @@ pub fn word(table: &[u8], at: usize) -> u32
     requires { at + 4 ≤ length table.now }
     ensures { result ≡ word_at table.now at }
 {
-    wide(table[at]) * 16777216
-        + wide(table[at + 1]) * 65536
-        + wide(table[at + 2]) * 256
-        + wide(table[at + 3])
+    u32::from_be_bytes([table[at], table[at + 1], table[at + 2], table[at + 3]])
 }
 
 // Is x between low and high, both allowed?
 pub fn within(low: u32, high: u32, x: u32) -> bool
     ensures { result ≡ between low high x }
 {
-    if x < low {
-        return false;
-    }
-    x <= high
+    (low..=high).contains(&x)
 }

@@ -2,10 +2,10 @@
 ghost use Rattle.std.specs.Prelude.{◌≡◌};
 ghost use Rattle.tables.specs.Checks.{head_check};
 
-use crate::fields::{count, half, within};
+use crate::fields::{half, within};
 use crate::{
-    HEAD_SIZE, MOST_ROWS, Offset, ROW_COUNT_AT, ROW_SIZE, Refusal, TASK_COUNT_AT,
-    VERSION_AT, layout,
+    HEAD_SIZE, MOST_ROWS, Offset, ROW_COUNT_AT, ROW_SIZE, Refusal, TASK_COUNT_AT, VERSION_AT,
+    layout,
 };
 
 pub fn check(table: &[u8]) -> Result<(), Refusal>
@@ -18,8 +18,8 @@ pub fn check(table: &[u8]) -> Result<(), Refusal>
     if !layout.known {
         return Err(Refusal::UnknownVersion);
     }
-    let n = count(table[TASK_COUNT_AT]);
-    let m = count(table[ROW_COUNT_AT]);
+    let n = usize::from(table[TASK_COUNT_AT]);
+    let m = usize::from(table[ROW_COUNT_AT]);
     if !within(1, layout.most, n as u32) {
         return Err(Refusal::CountOutOfRange(Offset(TASK_COUNT_AT)));
     }
