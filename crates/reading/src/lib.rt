@@ -7,7 +7,6 @@ ghost use Rattle.tables.specs.Layout.{layout_of};
 ghost use Rattle.tables.specs.Checks.{head_check, read_check, records_read};
 ghost use Rattle.records.specs.Columns.{record_columns, row_columns, record_in, row_in, Lent, Filled, rows_reached};
 
-use tables::fields::count;
 use tables::{ROW_COUNT_AT, Refusal, TASK_COUNT_AT, VERSION_AT};
 
 pub mod rows;
@@ -41,7 +40,13 @@ pub fn is_large(table: &[u8]) -> bool
 // Reads a table whose head is right: refusals 5 to 7, or clean, and then the columns hold the table. A deadline may be as long as `span`
 // periods. The columns stand one behind another in the two slices, those of the tasks `room` long: priorities, places and semaphores in
 // the bytes; periods, costs, deadlines, spreads, latest delays and longest sections in the words.
-pub fn read(table: &[u8], span: u32, room: usize, bytes: &mut [u8], words: &mut [u32]) -> Result<(), Refusal>
+pub fn read(
+    table: &[u8],
+    span: u32,
+    room: usize,
+    bytes: &mut [u8],
+    words: &mut [u32],
+) -> Result<(), Refusal>
     requires table_value { head_check table.now ≡ Ok tt }
     requires span_bound { (span ≤ 4) × Lent table.now room bytes.old words.old }
     ensures value { result ≡ read_check span table.now }
@@ -49,9 +54,9 @@ pub fn read(table: &[u8], span: u32, room: usize, bytes: &mut [u8], words: &mut 
     ensures filled_2 { Filled (row_in table.now) (rows_reached span table.now) (row_columns room bytes.old words.old) (row_columns room bytes.new words.new) }
 {
     let layout = tables::layout::of(table[VERSION_AT]);
-    let n = count(table[TASK_COUNT_AT]);
+    let n = usize::from(table[TASK_COUNT_AT]);
     records::read_all(table, layout, span, n, room, bytes, words)?;
-    let m = count(table[ROW_COUNT_AT]);
+    let m = usize::from(table[ROW_COUNT_AT]);
     rows::read_all(table, layout, n, m, room, bytes, words)
 }
 
@@ -60,9 +65,9 @@ pub fn any_delay(latest: &[u32], n: usize) -> bool
     requires { n ≤ length latest.now }
     ensures { result ≡ ltb 0 (largest_to (word_of latest.now) n) }
 {
-    let mut together: u32 = 0;
-    for i in 0..n {
-        together = together | latest[i];
+    let mut together = 0;
+    for &delay in &latest[..n] {
+        together |= delay;
     }
     0 < together
 }

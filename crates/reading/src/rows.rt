@@ -8,7 +8,7 @@ ghost use Rattle.reading.specs.Rows.{row_of, row_key, at_row, row_fault};
 
 use crate::ROW_ROOM;
 use model::{Place, Ticks};
-use tables::fields::{count, wide, within, word};
+use tables::fields::{within, word};
 use tables::layout::Layout;
 use tables::{
     HEAD_SIZE, LONGEST_AT, MOST_SEMAPHORE, ORDER_AT, Offset, PLACE_AT, ROW_SIZE, Refusal,
@@ -16,7 +16,7 @@ use tables::{
 };
 
 // One row's numbers.
-#[derive(Clone, Copy)]
+#[derive(Clone, Copy, Debug, PartialEq, Eq)]
 pub struct RowRecord {
     pub place: Place,
     pub semaphore: u8,
@@ -30,7 +30,7 @@ pub fn read(table: &[u8], at: usize) -> RowRecord
     ensures place_bound { (result.place.0 < 256) × (result.semaphore < 256) }
 {
     RowRecord {
-        place: Place(count(table[at + PLACE_AT])),
+        place: Place(usize::from(table[at + PLACE_AT])),
         semaphore: table[at + SEMAPHORE_AT],
         longest: Ticks(word(table, at + LONGEST_AT)),
     }
@@ -41,7 +41,7 @@ fn key(row: RowRecord) -> u32
     requires { (row.place.0 < 256) × (row.semaphore < 256) }
     ensures { result ≡ row_key (row_of row) }
 {
-    (row.place.0 as u32) * 256 + wide(row.semaphore)
+    (row.place.0 as u32) * 256 + u32::from(row.semaphore)
 }
 
 // Tests the row that begins at `at`: place, semaphore, length and then its order behind the row before (SPECIFICATION 3.1; document 02,
@@ -56,7 +56,7 @@ fn check(row: RowRecord, at: usize, n: usize, costs: &[u32], before: u32) -> Res
     if n <= place {
         return Err(Refusal::SectionRow(Offset(at + PLACE_AT)));
     }
-    if !within(1, MOST_SEMAPHORE, wide(row.semaphore)) {
+    if !within(1, MOST_SEMAPHORE, u32::from(row.semaphore)) {
         return Err(Refusal::SectionRow(Offset(at + SEMAPHORE_AT)));
     }
     if !within(1, costs[place], row.longest.0) {

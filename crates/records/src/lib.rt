@@ -9,7 +9,7 @@ ghost use Rattle.records.specs.Columns.{record_columns, row_columns, record_in, 
 ghost use Rattle.records.specs.Reading.{HeadRead, task_from, earliest_of, delay_at, at_record, record_fault};
 
 use model::{Priority, Ticks};
-use tables::fields::{wide, within, word};
+use tables::fields::{within, word};
 use tables::layout::{DelayFields, Layout};
 use tables::{
     COST_AT, DEADLINE_AT, EARLIEST_AT, HEAD_SIZE, JITTER_AT, LATEST_AT, MOST_TICKS, Offset,
@@ -20,7 +20,7 @@ use tables::{
 const HIGHEST_PRIORITY: u8 = 255;
 
 // One record's numbers.
-#[derive(Clone, Copy)]
+#[derive(Clone, Copy, Debug, PartialEq, Eq)]
 pub struct TaskRecord {
     pub priority: Priority,
     pub period: Ticks,
@@ -87,11 +87,7 @@ fn longest_deadline(span: u32, period: Ticks) -> Ticks
     requires { (span ≤ 4) × (period.0 ≤ 1000000) }
     ensures { result.0 ≡ longest_deadline span period.0 }
 {
-    let longest = span * period.0;
-    if MOST_TICKS < longest {
-        return Ticks(MOST_TICKS);
-    }
-    Ticks(longest)
+    Ticks((span * period.0).min(MOST_TICKS))
 }
 
 // Where the delay begins that is at fault: the earliest, if that is out of range, else the latest (SPECIFICATION 3.1; document 02,
@@ -107,7 +103,13 @@ fn delay_at(fields: DelayFields, earliest: Ticks) -> usize
 
 // Tests the record that begins at `at`: T, C, D, the delays, and then the priority, which stands first and is tested last (document
 // 02, L3). The first that is wrong is refused at its own first byte. An earliest that is at most a right latest is right.
-pub fn check(task: TaskRecord, layout: Layout, span: u32, at: usize, highest: Priority) -> Result<(), Refusal>
+pub fn check(
+    task: TaskRecord,
+    layout: Layout,
+    span: u32,
+    at: usize,
+    highest: Priority,
+) -> Result<(), Refusal>
     requires { (span ≤ 4) × (at < 65536) }
     ensures { result ≡ record_fault (at_record layout at span highest.0) (task_from task) }
 {
@@ -125,7 +127,7 @@ pub fn check(task: TaskRecord, layout: Layout, span: u32, at: usize, highest: Pr
         let delay = delay_at(fields, task.earliest);
         return Err(Refusal::NumberOutOfRange(Offset(at + delay)));
     }
-    if !within(1, wide(highest.0), wide(task.priority.0)) {
+    if !within(1, u32::from(highest.0), u32::from(task.priority.0)) {
         return Err(Refusal::PriorityOutOfOrder(Offset(at + PRIORITY_AT)));
     }
     Ok(())

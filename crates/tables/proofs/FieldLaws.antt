@@ -1,6 +1,7 @@
 -- Checks one after another, and fields tested in order: the first that fails is the one that is refused.
 -- Assumes nothing.
-use Rattle.std.specs.Prelude.{Ok, Err}
+use Rattle.std.specs.Prelude.{Ok, Err, IsErrAnd}
+use Rattle.std.proofs.lemmas.Result.{err_from_is_err_and}
 use Prim.Native.Nat.{ℕ, ◌+◌, ◌<◌}
 use mathlib.Core.Path.{◌≡◌, refl, sym, ◌∙◌, ap, subst}
 use mathlib.Core.Bool.{Bool, true, false}
@@ -166,3 +167,7 @@ module _ {F : Type 0} (test : F → Bool) (refusal : F → Refusal) where
 
   pub tests_passed : (order : List F) → fields_check test refusal order ≡ Ok tt → Each Passes order
   tests_passed order e = fields_right Passes test refusal (λ f p. p) (λ f p. p) order e
+
+-- the exit of a `?` returns what the check found
+pub handed_on : {result check : Check} {r : Refusal} → IsErrAnd result (λ (s : Refusal). s ≡ r) → check ≡ Err r → result ≡ check
+handed_on {result} given found = let p = err_from_is_err_and result given in p.1 ∙ (ap Err p.2 ∙ sym found)

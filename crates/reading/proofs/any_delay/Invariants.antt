@@ -1,5 +1,5 @@
 use Rattle.reading.proofs.DelayLaws.{Together}
 use Rattle.reading.proofs.any_delay.Given as goal
 
-abbrev pub invariant-loop-i : goal.invariant-loop-i
-invariant-loop-i l = Together l.latest l.n l.i l.together
+abbrev pub invariant-loop-delay : goal.invariant-loop-delay
+invariant-loop-delay l = Together l.latest l.n l.delay-index l.together

@@ -33,10 +33,10 @@ unfolding record_test
 returns-then-not-within-5 c = sym
     (tests_fail _ _ (period_field ∷ cost_field ∷ deadline_field ∷ earliest_field ∷ latest_field ∷ []) _ priority_field
     ((sym c.within.ensures ∙ c.if-not-within.false), ((sym c.within-2.ensures ∙ c.if-not-within-2.false), (ap (λ (k : ℕ). between 1 k c.args.task.deadline.0) (sym c.longest_deadline.ensures) ∙ (sym c.within-3.ensures ∙ c.if-not-within-3.false), (earliest_right c.args.task.earliest.0 c.args.task.latest.0 ((sym c.within-4.ensures ∙ c.if-not-within-4.false)), ((sym c.within-4.ensures ∙ c.if-not-within-4.false), tt)))))
-    (between_same (sym c.wide.ensures.0) (sym c.wide-2.ensures.0) ∙ (sym c.within-5.ensures ∙ c.if-not-within-5.true)))
+    (between_same (sym c.from.ensures) (sym c.from-2.ensures) ∙ (sym c.within-5.ensures ∙ c.if-not-within-5.true)))
 
 pub returns : goal.returns
 unfolding record_test
 returns c = sym
     (tests_pass _ _ record_order
-    ((sym c.within.ensures ∙ c.if-not-within.false), ((sym c.within-2.ensures ∙ c.if-not-within-2.false), (ap (λ (k : ℕ). between 1 k c.args.task.deadline.0) (sym c.longest_deadline.ensures) ∙ (sym c.within-3.ensures ∙ c.if-not-within-3.false), (earliest_right c.args.task.earliest.0 c.args.task.latest.0 ((sym c.within-4.ensures ∙ c.if-not-within-4.false)), ((sym c.within-4.ensures ∙ c.if-not-within-4.false), (between_same (sym c.wide.ensures.0) (sym c.wide-2.ensures.0) ∙ (sym c.within-5.ensures ∙ c.if-not-within-5.false), tt)))))))
+    ((sym c.within.ensures ∙ c.if-not-within.false), ((sym c.within-2.ensures ∙ c.if-not-within-2.false), (ap (λ (k : ℕ). between 1 k c.args.task.deadline.0) (sym c.longest_deadline.ensures) ∙ (sym c.within-3.ensures ∙ c.if-not-within-3.false), (earliest_right c.args.task.earliest.0 c.args.task.latest.0 ((sym c.within-4.ensures ∙ c.if-not-within-4.false)), ((sym c.within-4.ensures ∙ c.if-not-within-4.false), (between_same (sym c.from.ensures) (sym c.from-2.ensures) ∙ (sym c.within-5.ensures ∙ c.if-not-within-5.false), tt)))))))
