@@ -7,7 +7,7 @@ ghost use Rattle.model.specs.Lists.{filled, largest_to, word_of};
 ghost use Rattle.blocking.specs.Slices.{blocking_at, RowsHeld};
 ghost use Rattle.blocking.specs.Sweep.{rows_of, kept_with, SemaphoresHeld, Zeros};
 
-use model::{Priority, Ticks, larger};
+use model::{Priority, Ticks};
 
 // How many rows name each semaphore.
 fn rows_of(semaphores: &[u8], count: usize) -> [u8; 17]
@@ -15,9 +15,8 @@ fn rows_of(semaphores: &[u8], count: usize) -> [u8; 17]
     ensures { (s : ℕ) → s < 17 → get_or result s 0 ≡ rows_of semaphores.now s count }
 {
     let mut found = [0u8; 17];
-    for k in 0..count {
-        let semaphore = semaphores[k] as usize;
-        found[semaphore] += 1;
+    for &semaphore in &semaphores[..count] {
+        found[usize::from(semaphore)] += 1;
     }
     found
 }
@@ -27,11 +26,11 @@ fn longest_kept(kept: &[u32]) -> Ticks
     requires { length kept.now ≡ 17 }
     ensures { result.0 ≡ largest_to (word_of kept.now) 17 }
 {
-    let mut most = Ticks(0);
-    for s in 0..17 {
-        most = larger(most, Ticks(kept[s]));
+    let mut most: u32 = 0;
+    for &section in kept {
+        most = most.max(section);
     }
-    most
+    Ticks(most)
 }
 
 // Takes in a row of a semaphore of which `rest` rows stand before it. Where there is none, the row's task is at the ceiling: no task that is
@@ -46,8 +45,8 @@ fn take_in(semaphore: usize, rest: u8, section: Ticks, most: Ticks, kept: &mut [
         kept[semaphore] = 0;
         return longest_kept(kept);
     }
-    kept[semaphore] = larger(Ticks(kept[semaphore]), section).0;
-    larger(most, section)
+    kept[semaphore] = kept[semaphore].max(section.0);
+    Ticks(most.0.max(section.0))
 }
 
 // B of each of n tasks, of which the last is answered first. Before a task is answered, the rows of all less urgent ones are taken in: `most`
@@ -75,11 +74,11 @@ pub fn blocking(
             return;
         }
         let row = left - 1;
-        let place = places[row] as usize;
+        let place = usize::from(places[row]);
         let owner = Priority(priorities[place]);
         let own = Priority(priorities[i - 1]);
         if owner.0 < own.0 {
-            let semaphore = semaphores[row] as usize;
+            let semaphore = usize::from(semaphores[row]);
             let rest = rows[semaphore] - 1;
             rows[semaphore] = rest;
             most = take_in(semaphore, rest, Ticks(longest[row]), most, &mut kept);

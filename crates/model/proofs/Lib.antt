@@ -10,3 +10,4 @@ pub mod Gather
 pub mod Loads
 pub mod Any
 pub mod Totals
+pub mod Prefix

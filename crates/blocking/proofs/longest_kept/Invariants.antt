@@ -1,5 +1,5 @@
 use Rattle.blocking.proofs.SweepLaws.{Looked}
 use Rattle.blocking.proofs.longest_kept.Given as goal
 
-abbrev pub invariant-loop-s : goal.invariant-loop-s
-invariant-loop-s l = Looked l.kept l.s l.most.0
+abbrev pub invariant-loop-section : goal.invariant-loop-section
+invariant-loop-section l = Looked l.kept l.section-index l.most

@@ -1,5 +1,5 @@
 use Rattle.blocking.proofs.SweepLaws.{Counted}
 use Rattle.blocking.proofs.rows_of.Given as goal
 
-abbrev pub invariant-loop-k : goal.invariant-loop-k
-invariant-loop-k l = Counted l.semaphores l.count l.k l.found
+abbrev pub invariant-loop-semaphore : goal.invariant-loop-semaphore
+invariant-loop-semaphore l = Counted l.semaphores l.count l.semaphore-index l.found
