@@ -8,8 +8,8 @@ use Rattle.reading.proofs.HeldLaws.{table_held}
 use Rattle.claims.proofs.ColumnLaws.{read_refused, wrong_count}
 use Rattle.claims.proofs.check_in.Goals as goal
 
-pub returns-in-Refused : goal.returns-in-Refused
-returns-in-Refused c = read_refused _ _ _ (sym c.in-Refused.is ∙ c.read-found.ensures.value)
+pub returns-in-Err : goal.returns-in-Err
+returns-in-Err c = read_refused _ _ _ (sym c.in-Err.is ∙ c.read-found.ensures.value)
 
 pub bounds-table-3 : goal.bounds-table-3
 bounds-table-3 c = omega (arith, (head_right _ c.requires.table_value).long_enough)

@@ -6,8 +6,8 @@ use Rattle.reading.proofs.HeldLaws.{small_fits, large_fits}
 use Rattle.engine.proofs.PlayedLaws.{read_refused}
 use Rattle.engine.proofs.play.Goals as goal
 
-pub returns-in-Refused : goal.returns-in-Refused
-returns-in-Refused c = read_refused _ _ _ (head_decides _ _ _ (sym c.in-Refused.is ∙ c.check-head.ensures))
+pub returns-in-Err : goal.returns-in-Err
+returns-in-Err c = read_refused _ _ _ (head_decides _ _ _ (sym c.in-Err.is ∙ c.check-head.ensures))
 
 pub play_large-requires : goal.play_large-requires
 play_large-requires c = let clean = sym c.check-head.ensures ∙ c.in_default.is in

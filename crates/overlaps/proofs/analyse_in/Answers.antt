@@ -9,8 +9,8 @@ use Rattle.response.proofs.DecodedLaws.{room_is}
 use Rattle.overlaps.proofs.ColumnLaws.{read_refused, no_room, delayed, some_delay, no_delay}
 use Rattle.overlaps.proofs.analyse_in.Goals as goal
 
-pub returns-in-Refused : goal.returns-in-Refused
-returns-in-Refused c = read_refused _ _ _ _ (sym c.in-Refused.is ∙ c.read-checked.ensures.value)
+pub returns-in-Err : goal.returns-in-Err
+returns-in-Err c = read_refused _ _ _ _ (sym c.in-Err.is ∙ c.read-checked.ensures.value)
 
 pub bounds-table-3 : goal.bounds-table-3
 bounds-table-3 c = omega (arith, (head_right _ c.requires.table_value).long_enough)

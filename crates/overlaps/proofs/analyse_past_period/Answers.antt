@@ -6,8 +6,8 @@ use Rattle.reading.proofs.HeldLaws.{small_fits, large_fits}
 use Rattle.overlaps.proofs.ColumnLaws.{read_refused}
 use Rattle.overlaps.proofs.analyse_past_period.Goals as goal
 
-pub returns-in-Refused : goal.returns-in-Refused
-returns-in-Refused c = read_refused _ _ _ _ (head_decides _ _ _ (sym c.in-Refused.is ∙ c.check-head.ensures))
+pub returns-in-Err : goal.returns-in-Err
+returns-in-Err c = read_refused _ _ _ _ (head_decides _ _ _ (sym c.in-Err.is ∙ c.check-head.ensures))
 
 pub analyse_large-requires : goal.analyse_large-requires
 analyse_large-requires c = let clean = sym c.check-head.ensures ∙ c.in_default.is in

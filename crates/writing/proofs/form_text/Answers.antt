@@ -7,10 +7,10 @@ use Rattle.writing.proofs.Forms.{form_is}
 use Rattle.writing.proofs.form_text.Goals as goal
 
 pub form-requires : goal.form-requires
-form-requires c = (read_clean 4 _ (sym c.check-checked.ensures ∙ c.in-Clean.is)).0
+form-requires c = (read_clean 4 _ (sym c.check-checked.ensures ∙ c.in-Ok.is)).0
 
-pub returns-in-Refused : goal.returns-in-Refused
-returns-in-Refused c = as_text c.refused.ensures (form_is _ (sym c.check-checked.ensures ∙ c.in-Refused.is))
+pub returns-in-Err : goal.returns-in-Err
+returns-in-Err c = as_text c.refused.ensures (form_is _ (sym c.check-checked.ensures ∙ c.in-Err.is))
 
-pub returns-in-Clean : goal.returns-in-Clean
-returns-in-Clean c = as_text c.form.ensures (form_is _ (sym c.check-checked.ensures ∙ c.in-Clean.is))
+pub returns-in-Ok : goal.returns-in-Ok
+returns-in-Ok c = as_text c.form.ensures (form_is _ (sym c.check-checked.ensures ∙ c.in-Ok.is))
