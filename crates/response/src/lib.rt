@@ -1,13 +1,14 @@
 // The public entry: the bytes of one table and two lent slices in, a verdict out, answers and rounds in the slices.
 #![tactic(auto)]
 
-ghost use Rattle.std.specs.Prelude.{◌≡◌, ℕ, ◌≤◌, ◌<◌, leb, length};
+ghost use Rattle.std.specs.Prelude.{◌≡◌, ℕ, ◌+◌, ◌≤◌, ◌<◌, leb, length};
 ghost use Rattle.model.specs.Choice.{both};
 ghost use Rattle.model.specs.Lists.{filled};
 ghost use Rattle.tables.specs.declared.Check.TheVariants.{Clean};
 ghost use Rattle.tables.specs.Layout.{task_count, table_of};
 ghost use Rattle.tables.specs.Checks.{head_check};
 ghost use Rattle.records.specs.Columns.{record_columns, row_columns, Lent, TableHeld};
+ghost use Rattle.reading.specs.Sizes.{Sizes};
 ghost use Rattle.blocking.specs.Ceilings.{blocking_of};
 ghost use Rattle.blocking.specs.Sweep.{Zeros};
 ghost use Rattle.response.specs.Verdicts.{code_of, verdict_place, packed};
@@ -19,7 +20,8 @@ pub use answering::Verdict;
 use answering::answer_all;
 pub use equation::Start;
 use reading::{
-    LARGE_BYTES, LARGE_ROOM, LARGE_WORDS, ROW_ROOM, SMALL_BYTES, SMALL_ROOM, SMALL_WORDS, is_large,
+    LARGE_BYTES, LARGE_MARKS, LARGE_ROOM, LARGE_WORDS, ROW_ROOM, SMALL_BYTES, SMALL_MARKS,
+    SMALL_ROOM, SMALL_WORDS, is_large,
 };
 use tables::fields::count;
 use tables::{Check, ONE_PERIOD, ROW_COUNT_AT, Refusal, TASK_COUNT_AT};
@@ -72,37 +74,33 @@ pub fn analyse_from(start: Start, table: &[u8], answers: &mut [u32], rounds: &mu
         return Verdict::Refused(refusal);
     }
     if is_large(table) {
-        return analyse_large(start, table, answers, rounds);
+        return analyse_sized::<LARGE_ROOM, LARGE_BYTES, LARGE_WORDS, LARGE_MARKS>(
+            start, table, answers, rounds,
+        );
     }
-    analyse_small(start, table, answers, rounds)
-}
-
-// Analyses a table with a right head, of at most 32 tasks: the room that versions 1 and 2 need is all that they are given.
-fn analyse_small(start: Start, table: &[u8], answers: &mut [u32], rounds: &mut [u32]) -> Verdict
-    requires { (head_check table.now ≡ Clean) × (task_count table.now ≤ 32) }
-    ensures { Outcome start (lending table.now answers.old rounds.old) (leaving result answers.new rounds.new) }
-{
-    let mut bytes = [0u8; SMALL_BYTES];
-    let mut words = [0u32; SMALL_WORDS];
-    // the blocking of each task; a mark for each, and one more
-    let mut held = [0u32; SMALL_ROOM];
-    let mut marks = [0u32; SMALL_ROOM + 1];
-    analyse_in(
-        start, table, SMALL_ROOM, &mut bytes, &mut words, &mut held, &mut marks, answers, rounds,
+    analyse_sized::<SMALL_ROOM, SMALL_BYTES, SMALL_WORDS, SMALL_MARKS>(
+        start, table, answers, rounds,
     )
 }
 
-// The same for the 200 tasks that version 3 may have.
-fn analyse_large(start: Start, table: &[u8], answers: &mut [u32], rounds: &mut [u32]) -> Verdict
-    requires { (head_check table.now ≡ Clean) × (task_count table.now ≤ 200) }
+// Analyses a table with a right head, of at most `ROOM` tasks, in columns of just that room: versions 1 and 2 are given no more than they need.
+fn analyse_sized<const ROOM: usize, const BYTES: usize, const WORDS: usize, const MARKS: usize>(
+    start: Start,
+    table: &[u8],
+    answers: &mut [u32],
+    rounds: &mut [u32],
+) -> Verdict
+    requires sizes { Sizes ROOM BYTES WORDS × (MARKS ≡ ROOM + 1) }
+    requires table_fits { (head_check table.now ≡ Clean) × (task_count table.now ≤ ROOM) }
     ensures { Outcome start (lending table.now answers.old rounds.old) (leaving result answers.new rounds.new) }
 {
-    let mut bytes = [0u8; LARGE_BYTES];
-    let mut words = [0u32; LARGE_WORDS];
-    let mut held = [0u32; LARGE_ROOM];
-    let mut marks = [0u32; LARGE_ROOM + 1];
+    let mut bytes = [0u8; BYTES];
+    let mut words = [0u32; WORDS];
+    // the blocking of each task; a mark for each, and one more
+    let mut held = [0u32; ROOM];
+    let mut marks = [0u32; MARKS];
     analyse_in(
-        start, table, LARGE_ROOM, &mut bytes, &mut words, &mut held, &mut marks, answers, rounds,
+        start, table, ROOM, &mut bytes, &mut words, &mut held, &mut marks, answers, rounds,
     )
 }
 
