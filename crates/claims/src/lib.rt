@@ -7,6 +7,7 @@ ghost use Rattle.tables.specs.declared.Check.TheVariants.{Clean};
 ghost use Rattle.tables.specs.Layout.{task_count};
 ghost use Rattle.tables.specs.Checks.{head_check};
 ghost use Rattle.records.specs.Columns.{record_columns, row_columns, Lent, TableHeld};
+ghost use Rattle.reading.specs.Sizes.{Sizes};
 ghost use Rattle.blocking.specs.Sweep.{Zeros};
 ghost use Rattle.equation.specs.Laws.{cost_of};
 ghost use Rattle.equation.specs.Slices.{loads, LoadsFit};
@@ -46,32 +47,26 @@ pub fn check_claims(table: &[u8], claims: &[u32]) -> Claimed
         return Claimed::Refused(refusal);
     }
     if is_large(table) {
-        return check_large(table, claims);
+        return check_sized::<LARGE_ROOM, LARGE_BYTES, LARGE_WORDS>(table, claims);
     }
-    check_small(table, claims)
+    check_sized::<SMALL_ROOM, SMALL_BYTES, SMALL_WORDS>(table, claims)
 }
 
-// Checks the claims for a table with a right head, of at most 32 tasks: the room that versions 1 and 2 need is all that they are given.
-fn check_small(table: &[u8], claims: &[u32]) -> Claimed
-    requires { (head_check table.now ≡ Clean) × (task_count table.now ≤ 32) }
+// Checks the claims for a table with a right head, of at most `ROOM` tasks, in columns of just that room: versions 1 and 2 are given no more than
+// they need.
+fn check_sized<const ROOM: usize, const BYTES: usize, const WORDS: usize>(
+    table: &[u8],
+    claims: &[u32],
+) -> Claimed
+    requires sizes { Sizes ROOM BYTES WORDS }
+    requires table_fits { (head_check table.now ≡ Clean) × (task_count table.now ≤ ROOM) }
     ensures { Checked table.now claims.now result }
 {
-    let mut bytes = [0u8; SMALL_BYTES];
-    let mut words = [0u32; SMALL_WORDS];
+    let mut bytes = [0u8; BYTES];
+    let mut words = [0u32; WORDS];
     // the blocking of each task
-    let mut held = [0u32; SMALL_ROOM];
-    check_in(table, SMALL_ROOM, &mut bytes, &mut words, &mut held, claims)
-}
-
-// The same for the 200 tasks that version 3 may have.
-fn check_large(table: &[u8], claims: &[u32]) -> Claimed
-    requires { (head_check table.now ≡ Clean) × (task_count table.now ≤ 200) }
-    ensures { Checked table.now claims.now result }
-{
-    let mut bytes = [0u8; LARGE_BYTES];
-    let mut words = [0u32; LARGE_WORDS];
-    let mut held = [0u32; LARGE_ROOM];
-    check_in(table, LARGE_ROOM, &mut bytes, &mut words, &mut held, claims)
+    let mut held = [0u32; ROOM];
+    check_in(table, ROOM, &mut bytes, &mut words, &mut held, claims)
 }
 
 // Checks the claims for a table with a right head, in columns for `room` tasks and a zero for the blocking of each task.

@@ -1,12 +1,13 @@
 // The second analysis (SPECIFICATION 13.8; document 02, L8): deadlines may be past the period, so that jobs of one task may overlap.
 #![tactic(auto)]
 
-ghost use Rattle.std.specs.Prelude.{◌≡◌, true, ◌≤◌, ◌<◌, length};
+ghost use Rattle.std.specs.Prelude.{◌≡◌, true, ◌+◌, ◌≤◌, ◌<◌, length};
 ghost use Rattle.model.specs.Choice.{pick};
 ghost use Rattle.tables.specs.declared.Check.TheVariants.{Clean};
 ghost use Rattle.tables.specs.Layout.{task_count};
 ghost use Rattle.tables.specs.Checks.{head_check};
 ghost use Rattle.records.specs.Columns.{record_columns, row_columns, Lent, TableHeld};
+ghost use Rattle.reading.specs.Sizes.{Sizes};
 ghost use Rattle.blocking.specs.Sweep.{Zeros};
 ghost use Rattle.marks.specs.Marks.{PeriodsHigh};
 ghost use Rattle.answering.specs.Slices.{decoded, DecodedFits, slice};
@@ -19,7 +20,8 @@ use jobs::longest;
 use marks::least_first;
 use model::{OPEN, Place, Ticks};
 use reading::{
-    LARGE_BYTES, LARGE_ROOM, LARGE_WORDS, SMALL_BYTES, SMALL_ROOM, SMALL_WORDS, any_delay, is_large,
+    LARGE_BYTES, LARGE_MARKS, LARGE_ROOM, LARGE_WORDS, SMALL_BYTES, SMALL_MARKS, SMALL_ROOM,
+    SMALL_WORDS, any_delay, is_large,
 };
 use response::{find_blocking, has_room};
 use tables::fields::count;
@@ -48,37 +50,30 @@ pub fn analyse_past_period(table: &[u8], answers: &mut [u32], tried: &mut [u32])
         return Found::Refused(refusal);
     }
     if is_large(table) {
-        return analyse_large(table, answers, tried);
+        return analyse_sized::<LARGE_ROOM, LARGE_BYTES, LARGE_WORDS, LARGE_MARKS>(
+            table, answers, tried,
+        );
     }
-    analyse_small(table, answers, tried)
+    analyse_sized::<SMALL_ROOM, SMALL_BYTES, SMALL_WORDS, SMALL_MARKS>(table, answers, tried)
 }
 
-// Analyses a table with a right head, of at most 32 tasks: the room that versions 1 and 2 need is all that they are given.
-fn analyse_small(table: &[u8], answers: &mut [u32], tried: &mut [u32]) -> Found
-    requires { (head_check table.now ≡ Clean) × (task_count table.now ≤ 32) }
+// Analyses a table with a right head, of at most `ROOM` tasks, in columns of just that room: versions 1 and 2 are given no more than they need.
+fn analyse_sized<const ROOM: usize, const BYTES: usize, const WORDS: usize, const MARKS: usize>(
+    table: &[u8],
+    answers: &mut [u32],
+    tried: &mut [u32],
+) -> Found
+    requires sizes { Sizes ROOM BYTES WORDS × (MARKS ≡ ROOM + 1) }
+    requires table_fits { (head_check table.now ≡ Clean) × (task_count table.now ≤ ROOM) }
     ensures { PastOutcome (lending table.now answers.old tried.old) (leaving result answers.new tried.new) }
 {
-    let mut bytes = [0u8; SMALL_BYTES];
-    let mut words = [0u32; SMALL_WORDS];
+    let mut bytes = [0u8; BYTES];
+    let mut words = [0u32; WORDS];
     // the blocking of each task; a mark for each, and one more
-    let mut held = [0u32; SMALL_ROOM];
-    let mut marks = [0u32; SMALL_ROOM + 1];
+    let mut held = [0u32; ROOM];
+    let mut marks = [0u32; MARKS];
     analyse_in(
-        table, SMALL_ROOM, &mut bytes, &mut words, &mut held, &mut marks, answers, tried,
-    )
-}
-
-// The same for the 200 tasks that version 3 may have.
-fn analyse_large(table: &[u8], answers: &mut [u32], tried: &mut [u32]) -> Found
-    requires { (head_check table.now ≡ Clean) × (task_count table.now ≤ 200) }
-    ensures { PastOutcome (lending table.now answers.old tried.old) (leaving result answers.new tried.new) }
-{
-    let mut bytes = [0u8; LARGE_BYTES];
-    let mut words = [0u32; LARGE_WORDS];
-    let mut held = [0u32; LARGE_ROOM];
-    let mut marks = [0u32; LARGE_ROOM + 1];
-    analyse_in(
-        table, LARGE_ROOM, &mut bytes, &mut words, &mut held, &mut marks, answers, tried,
+        table, ROOM, &mut bytes, &mut words, &mut held, &mut marks, answers, tried,
     )
 }
 
