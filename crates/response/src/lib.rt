@@ -1,7 +1,7 @@
 // The public entry: the bytes of one table and two lent slices in, a verdict out, answers and rounds in the slices.
 #![tactic(auto)]
 
-ghost use Rattle.std.specs.Prelude.{◌≡◌, ℕ, ◌+◌, ◌≤◌, ◌<◌, leb, length};
+ghost use Rattle.std.specs.Prelude.{◌≡◌, ℕ, ◌+◌, ◌*◌, ◌≤◌, ◌<◌, leb, length};
 ghost use Rattle.model.specs.Choice.{both};
 ghost use Rattle.model.specs.Lists.{filled};
 ghost use Rattle.tables.specs.declared.Check.TheVariants.{Clean};
@@ -11,7 +11,7 @@ ghost use Rattle.records.specs.Columns.{record_columns, row_columns, Lent, Table
 ghost use Rattle.reading.specs.Sizes.{Sizes};
 ghost use Rattle.blocking.specs.Ceilings.{blocking_of};
 ghost use Rattle.blocking.specs.Sweep.{Zeros};
-ghost use Rattle.response.specs.Verdicts.{code_of, verdict_place, packed};
+ghost use Rattle.response.specs.Verdicts.{code_of, verdict_place};
 ghost use Rattle.response.specs.Outcome.{Outcome, lending, leaving};
 ghost use Rattle.response.specs.Packing.{PackedOutcome};
 ghost use Rattle.equation.specs.declared.Start.TheVariants.{EveryCost};
@@ -26,35 +26,50 @@ use reading::{
 use tables::fields::count;
 use tables::{Check, ONE_PERIOD, ROW_COUNT_AT, Refusal, TASK_COUNT_AT};
 
-// The refusal's number; 0 for schedulable, 255 for late.
-pub fn code(verdict: Verdict) -> u32
-    ensures { result ≡ code_of verdict }
-{
-    match verdict {
-        Verdict::Refused(refusal) => tables::number(refusal),
-        Verdict::Schedulable => 0,
-        Verdict::Late(_) => 255,
+// What is told as two numbers: which case it is, and the place that the case has, or 0.
+pub trait Told: Copy {
+    ghost code_of: { Self → ℕ };
+
+    ghost place_of: { Self → ℕ };
+
+    fn code(self) -> u32
+        ensures { result ≡ code_of self };
+
+    fn place(self) -> usize
+        ensures { result ≡ place_of self };
+}
+
+impl Told for Verdict {
+    ghost code_of = { code_of };
+
+    ghost place_of = { verdict_place };
+
+    // The refusal's number; 0 for schedulable, 255 for late.
+    fn code(self) -> u32 {
+        match self {
+            Verdict::Refused(refusal) => tables::number(refusal),
+            Verdict::Schedulable => 0,
+            Verdict::Late(_) => 255,
+        }
+    }
+
+    // The refusal's place (a byte of the table, or 0), or the first late task's.
+    fn place(self) -> usize {
+        match self {
+            Verdict::Refused(refusal) => tables::place(refusal),
+            Verdict::Schedulable => 0,
+            Verdict::Late(at) => at.0,
+        }
     }
 }
 
-// The refusal's place (a byte of the table, or 0), or the first late task's.
-pub fn place(verdict: Verdict) -> usize
-    ensures { result ≡ verdict_place verdict }
-{
-    match verdict {
-        Verdict::Refused(refusal) => tables::place(refusal),
-        Verdict::Schedulable => 0,
-        Verdict::Late(at) => at.0,
-    }
-}
-
-// The verdict in one number, for C: the code in the upper 32 bits, the place in the lower 32. A table states its length in two bytes,
+// Both in one number, for C: the code in the upper 32 bits, the place in the lower 32. A table states its length in two bytes,
 // so no place reaches 65,536.
-pub fn pack(verdict: Verdict) -> u64
-    requires { verdict_place verdict < 65536 }
-    ensures { result ≡ packed verdict }
+pub fn pack<T: Told>(told: T) -> u64
+    requires { T.place_of told < 65536 }
+    ensures { result ≡ T.code_of told * 4294967296 + T.place_of told }
 {
-    (code(verdict) as u64) * 4294967296 + (place(verdict) as u64)
+    u64::from(told.code()) * 4294967296 + told.place() as u64
 }
 
 // Any bytes and any slices get a verdict. A refusal changes no word; otherwise words 0 to n - 1 of `answers` and `rounds` are
