@@ -14,7 +14,7 @@ ghost use Rattle.equation.specs.Slices.{loads, LoadsFit};
 ghost use Rattle.answering.specs.Slices.{decoded, DecodedFits};
 ghost use Rattle.claims.specs.Claims.{claim_passes, compared_of, Checked};
 ghost use Rattle.claims.specs.Columns.{passes_in};
-ghost use Rattle.claims.specs.Numbers.{code_of, claimed_place, packed_claimed, packed};
+ghost use Rattle.claims.specs.Numbers.{code_of, claimed_place, packed};
 
 use answering::{Group, group_of};
 use equation::demand;
@@ -22,7 +22,7 @@ use model::{Place, Ticks};
 use reading::{
     LARGE_BYTES, LARGE_ROOM, LARGE_WORDS, SMALL_BYTES, SMALL_ROOM, SMALL_WORDS, is_large,
 };
-use response::find_blocking;
+use response::{Told, find_blocking, pack};
 use tables::fields::count;
 use tables::{Check, ONE_PERIOD, Refusal, TASK_COUNT_AT};
 
@@ -209,36 +209,29 @@ fn passes(
     demand(periods, costs, spreads, own, count, base, others, w) <= w.0 as u64
 }
 
-// The refusal's number; 0 for pass, 255 for fails.
-pub fn code(claimed: Claimed) -> u32
-    ensures { result ≡ code_of claimed }
-{
-    match claimed {
-        Claimed::Refused(refusal) => tables::number(refusal),
-        Claimed::WrongCount => 10,
-        Claimed::Pass => 0,
-        Claimed::Fails(_) => 255,
-    }
-}
+impl Told for Claimed {
+    ghost code_of = { code_of };
 
-// The refusal's place (a byte of the table, or 0), or that of the first task whose claim fails.
-pub fn place(claimed: Claimed) -> usize
-    ensures { result ≡ claimed_place claimed }
-{
-    match claimed {
-        Claimed::Refused(refusal) => tables::place(refusal),
-        Claimed::WrongCount => 0,
-        Claimed::Pass => 0,
-        Claimed::Fails(at) => at.0,
-    }
-}
+    ghost place_of = { claimed_place };
 
-// The answer in one number: the code in the upper 32 bits, the place in the lower 32.
-fn pack(claimed: Claimed) -> u64
-    requires { claimed_place claimed < 65536 }
-    ensures { result ≡ packed_claimed claimed }
-{
-    (code(claimed) as u64) * 4294967296 + (place(claimed) as u64)
+    // The refusal's number; 0 for pass, 255 for fails.
+    fn code(self) -> u32 {
+        match self {
+            Claimed::Refused(refusal) => tables::number(refusal),
+            Claimed::WrongCount => 10,
+            Claimed::Pass => 0,
+            Claimed::Fails(_) => 255,
+        }
+    }
+
+    // The refusal's place (a byte of the table, or 0), or that of the first task whose claim fails.
+    fn place(self) -> usize {
+        match self {
+            Claimed::Refused(refusal) => tables::place(refusal),
+            Claimed::WrongCount | Claimed::Pass => 0,
+            Claimed::Fails(at) => at.0,
+        }
+    }
 }
 
 // What `check_claims` says, in one number, for C (crates/claims_c).

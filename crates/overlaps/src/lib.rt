@@ -13,7 +13,7 @@ ghost use Rattle.marks.specs.Marks.{PeriodsHigh};
 ghost use Rattle.answering.specs.Slices.{decoded, DecodedFits, slice};
 ghost use Rattle.overlaps.specs.Outcome.{is_schedulable, is_calm, said_by, lending, leaving, PastOutcome};
 ghost use Rattle.overlaps.specs.Columns.{AllFound};
-ghost use Rattle.overlaps.specs.Numbers.{code_of, found_place, packed, PackedOutcome};
+ghost use Rattle.overlaps.specs.Numbers.{code_of, found_place, PackedOutcome};
 
 use answering::{Group, group_of};
 use jobs::longest;
@@ -23,7 +23,7 @@ use reading::{
     LARGE_BYTES, LARGE_MARKS, LARGE_ROOM, LARGE_WORDS, SMALL_BYTES, SMALL_MARKS, SMALL_ROOM,
     SMALL_WORDS, any_delay, is_large,
 };
-use response::{find_blocking, has_room};
+use response::{Told, find_blocking, has_room, pack};
 use tables::fields::count;
 use tables::{Check, FOUR_PERIODS, Refusal, TASK_COUNT_AT};
 
@@ -223,38 +223,30 @@ fn said(word: u32, at: Place) -> Found
     Found::Schedulable
 }
 
-// The refusal's number; 0 for schedulable, 255 for late, 254 for open.
-pub fn code(found: Found) -> u32
-    ensures { result ≡ code_of found }
-{
-    match found {
-        Found::Refused(refusal) => tables::number(refusal),
-        Found::Delayed => 11,
-        Found::Schedulable => 0,
-        Found::Late(_) => 255,
-        Found::Open(_) => 254,
-    }
-}
+impl Told for Found {
+    ghost code_of = { code_of };
 
-// The refusal's place (a byte of the table, or 0), or that of the first task that is late or open.
-pub fn place(found: Found) -> usize
-    ensures { result ≡ found_place found }
-{
-    match found {
-        Found::Refused(refusal) => tables::place(refusal),
-        Found::Delayed => 0,
-        Found::Schedulable => 0,
-        Found::Late(at) => at.0,
-        Found::Open(at) => at.0,
-    }
-}
+    ghost place_of = { found_place };
 
-// The answer in one number: the code in the upper 32 bits, the place in the lower 32.
-fn pack(found: Found) -> u64
-    requires { found_place found < 65536 }
-    ensures { result ≡ packed found }
-{
-    (code(found) as u64) * 4294967296 + (place(found) as u64)
+    // The refusal's number; 0 for schedulable, 255 for late, 254 for open.
+    fn code(self) -> u32 {
+        match self {
+            Found::Refused(refusal) => tables::number(refusal),
+            Found::Delayed => 11,
+            Found::Schedulable => 0,
+            Found::Late(_) => 255,
+            Found::Open(_) => 254,
+        }
+    }
+
+    // The refusal's place (a byte of the table, or 0), or that of the first task that is late or open.
+    fn place(self) -> usize {
+        match self {
+            Found::Refused(refusal) => tables::place(refusal),
+            Found::Delayed | Found::Schedulable => 0,
+            Found::Late(at) | Found::Open(at) => at.0,
+        }
+    }
 }
 
 // What `analyse_past_period` says, in one number, for C (crates/overlaps_c).
