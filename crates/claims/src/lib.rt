@@ -6,13 +6,14 @@ ghost use Rattle.model.specs.Lists.{sum_of};
 ghost use Rattle.tables.specs.Layout.{task_count};
 ghost use Rattle.tables.specs.Checks.{head_check};
 ghost use Rattle.records.specs.Columns.{record_columns, row_columns, Lent, TableHeld};
+ghost use Rattle.reading.specs.Sizes.{Sizes};
 ghost use Rattle.blocking.specs.Sweep.{Zeros};
 ghost use Rattle.equation.specs.Laws.{cost_of};
 ghost use Rattle.equation.specs.Slices.{loads, LoadsFit};
 ghost use Rattle.answering.specs.Slices.{decoded, DecodedFits};
 ghost use Rattle.claims.specs.Claims.{claim_passes, compared_of, Checked};
 ghost use Rattle.claims.specs.Columns.{passes_in};
-ghost use Rattle.claims.specs.Numbers.{code_of, claimed_place, packed_claimed, packed};
+ghost use Rattle.claims.specs.Numbers.{code_of, claimed_place, packed};
 
 use answering::{Group, group_of};
 use equation::demand;
@@ -20,7 +21,7 @@ use model::{Place, Ticks};
 use reading::{
     LARGE_BYTES, LARGE_ROOM, LARGE_WORDS, SMALL_BYTES, SMALL_ROOM, SMALL_WORDS, is_large,
 };
-use response::find_blocking;
+use response::{Told, find_blocking, pack};
 use tables::fields::count;
 use tables::{ONE_PERIOD, Refusal, TASK_COUNT_AT};
 
@@ -45,32 +46,26 @@ pub fn check_claims(table: &[u8], claims: &[u32]) -> Claimed
         return Claimed::Refused(refusal);
     }
     if is_large(table) {
-        return check_large(table, claims);
+        return check_sized::<LARGE_ROOM, LARGE_BYTES, LARGE_WORDS>(table, claims);
     }
-    check_small(table, claims)
+    check_sized::<SMALL_ROOM, SMALL_BYTES, SMALL_WORDS>(table, claims)
 }
 
-// Checks the claims for a table with a right head, of at most 32 tasks: the room that versions 1 and 2 need is all that they are given.
-fn check_small(table: &[u8], claims: &[u32]) -> Claimed
-    requires { (head_check table.now ≡ Ok tt) × (task_count table.now ≤ 32) }
+// Checks the claims for a table with a right head, of at most `ROOM` tasks, in columns of just that room: versions 1 and 2 are given no more than
+// they need.
+fn check_sized<const ROOM: usize, const BYTES: usize, const WORDS: usize>(
+    table: &[u8],
+    claims: &[u32],
+) -> Claimed
+    requires sizes { Sizes ROOM BYTES WORDS }
+    requires table_fits { (head_check table.now ≡ Ok tt) × (task_count table.now ≤ ROOM) }
     ensures { Checked table.now claims.now result }
 {
-    let mut bytes = [0u8; SMALL_BYTES];
-    let mut words = [0u32; SMALL_WORDS];
+    let mut bytes = [0u8; BYTES];
+    let mut words = [0u32; WORDS];
     // the blocking of each task
-    let mut held = [0u32; SMALL_ROOM];
-    check_in(table, SMALL_ROOM, &mut bytes, &mut words, &mut held, claims)
-}
-
-// The same for the 200 tasks that version 3 may have.
-fn check_large(table: &[u8], claims: &[u32]) -> Claimed
-    requires { (head_check table.now ≡ Ok tt) × (task_count table.now ≤ 200) }
-    ensures { Checked table.now claims.now result }
-{
-    let mut bytes = [0u8; LARGE_BYTES];
-    let mut words = [0u32; LARGE_WORDS];
-    let mut held = [0u32; LARGE_ROOM];
-    check_in(table, LARGE_ROOM, &mut bytes, &mut words, &mut held, claims)
+    let mut held = [0u32; ROOM];
+    check_in(table, ROOM, &mut bytes, &mut words, &mut held, claims)
 }
 
 // Checks the claims for a table with a right head, in columns for `room` tasks and a zero for the blocking of each task.
@@ -213,36 +208,29 @@ fn passes(
     demand(periods, costs, spreads, own, count, base, others, w) <= w.0 as u64
 }
 
-// The refusal's number; 0 for pass, 255 for fails.
-pub fn code(claimed: Claimed) -> u32
-    ensures { result ≡ code_of claimed }
-{
-    match claimed {
-        Claimed::Refused(refusal) => tables::number(refusal),
-        Claimed::WrongCount => 10,
-        Claimed::Pass => 0,
-        Claimed::Fails(_) => 255,
-    }
-}
+impl Told for Claimed {
+    ghost code_of = { code_of };
 
-// The refusal's place (a byte of the table, or 0), or that of the first task whose claim fails.
-pub fn place(claimed: Claimed) -> usize
-    ensures { result ≡ claimed_place claimed }
-{
-    match claimed {
-        Claimed::Refused(refusal) => tables::place(refusal),
-        Claimed::WrongCount => 0,
-        Claimed::Pass => 0,
-        Claimed::Fails(at) => at.0,
-    }
-}
+    ghost place_of = { claimed_place };
 
-// The answer in one number: the code in the upper 32 bits, the place in the lower 32.
-fn pack(claimed: Claimed) -> u64
-    requires { claimed_place claimed < 65536 }
-    ensures { result ≡ packed_claimed claimed }
-{
-    (code(claimed) as u64) * 4294967296 + (place(claimed) as u64)
+    // The refusal's number; 0 for pass, 255 for fails.
+    fn code(self) -> u32 {
+        match self {
+            Claimed::Refused(refusal) => tables::number(refusal),
+            Claimed::WrongCount => 10,
+            Claimed::Pass => 0,
+            Claimed::Fails(_) => 255,
+        }
+    }
+
+    // The refusal's place (a byte of the table, or 0), or that of the first task whose claim fails.
+    fn place(self) -> usize {
+        match self {
+            Claimed::Refused(refusal) => tables::place(refusal),
+            Claimed::WrongCount | Claimed::Pass => 0,
+            Claimed::Fails(at) => at.0,
+        }
+    }
 }
 
 // What `check_claims` says, in one number, for C (crates/claims_c).

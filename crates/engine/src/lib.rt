@@ -8,6 +8,7 @@ ghost use Rattle.tables.specs.Layout.{task_count, priority_in};
 ghost use Rattle.tables.specs.Meaning.{TableRight};
 ghost use Rattle.tables.specs.Checks.{head_check};
 ghost use Rattle.records.specs.Columns.{part, Lent};
+ghost use Rattle.reading.specs.Sizes.{Sizes};
 ghost use Rattle.blocking.specs.Sweep.{Zeros};
 ghost use Rattle.answering.specs.Results.{result_of};
 ghost use Rattle.engine.specs.Held.{NumbersHeld};
@@ -31,37 +32,27 @@ pub fn play(table: &[u8], answers: &mut [u32]) -> Verdict
         return Verdict::Refused(refusal);
     }
     if is_large(table) {
-        return play_large(table, answers);
+        return play_sized::<LARGE_ROOM, LARGE_BYTES, LARGE_WORDS>(table, answers);
     }
-    play_small(table, answers)
+    play_sized::<SMALL_ROOM, SMALL_BYTES, SMALL_WORDS>(table, answers)
 }
 
-// Plays a table with a right head, of at most 32 tasks: the room that versions 1 and 2 need is all that they are given.
-fn play_small(table: &[u8], answers: &mut [u32]) -> Verdict
-    requires { (head_check table.now ≡ Ok tt) × (task_count table.now ≤ 32) }
+// Plays a table with a right head, of at most `ROOM` tasks, in columns of just that room: versions 1 and 2 are given no more than they need.
+fn play_sized<const ROOM: usize, const BYTES: usize, const WORDS: usize>(
+    table: &[u8],
+    answers: &mut [u32],
+) -> Verdict
+    requires sizes { Sizes ROOM BYTES WORDS }
+    requires table_fits { (head_check table.now ≡ Ok tt) × (task_count table.now ≤ ROOM) }
     ensures { Played table.now answers.old result answers.new }
 {
-    let mut bytes = [0u8; SMALL_BYTES];
-    let mut words = [0u32; SMALL_WORDS];
+    let mut bytes = [0u8; BYTES];
+    let mut words = [0u32; WORDS];
     // the work left and the next release of each task
-    let mut left = [0u64; SMALL_ROOM];
-    let mut due = [0u32; SMALL_ROOM];
+    let mut left = [0u64; ROOM];
+    let mut due = [0u32; ROOM];
     play_in(
-        table, SMALL_ROOM, &mut bytes, &mut words, &mut left, &mut due, answers,
-    )
-}
-
-// The same for the 200 tasks that version 3 may have.
-fn play_large(table: &[u8], answers: &mut [u32]) -> Verdict
-    requires { (head_check table.now ≡ Ok tt) × (task_count table.now ≤ 200) }
-    ensures { Played table.now answers.old result answers.new }
-{
-    let mut bytes = [0u8; LARGE_BYTES];
-    let mut words = [0u32; LARGE_WORDS];
-    let mut left = [0u64; LARGE_ROOM];
-    let mut due = [0u32; LARGE_ROOM];
-    play_in(
-        table, LARGE_ROOM, &mut bytes, &mut words, &mut left, &mut due, answers,
+        table, ROOM, &mut bytes, &mut words, &mut left, &mut due, answers,
     )
 }
 

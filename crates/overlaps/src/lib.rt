@@ -1,26 +1,28 @@
 // The second analysis (SPECIFICATION 13.8; document 02, L8): deadlines may be past the period, so that jobs of one task may overlap.
 #![tactic(auto)]
 
-ghost use Rattle.std.specs.Prelude.{◌≡◌, true, ◌≤◌, ◌<◌, length, Ok};
+ghost use Rattle.std.specs.Prelude.{◌≡◌, true, ◌+◌, ◌≤◌, ◌<◌, length, Ok};
 ghost use Rattle.model.specs.Choice.{pick};
 ghost use Rattle.tables.specs.Layout.{task_count};
 ghost use Rattle.tables.specs.Checks.{head_check};
 ghost use Rattle.records.specs.Columns.{record_columns, row_columns, Lent, TableHeld};
+ghost use Rattle.reading.specs.Sizes.{Sizes};
 ghost use Rattle.blocking.specs.Sweep.{Zeros};
 ghost use Rattle.marks.specs.Marks.{PeriodsHigh};
 ghost use Rattle.answering.specs.Slices.{decoded, DecodedFits, slice};
 ghost use Rattle.overlaps.specs.Outcome.{is_schedulable, is_calm, said_by, lending, leaving, PastOutcome};
 ghost use Rattle.overlaps.specs.Columns.{AllFound};
-ghost use Rattle.overlaps.specs.Numbers.{code_of, found_place, packed, PackedOutcome};
+ghost use Rattle.overlaps.specs.Numbers.{code_of, found_place, PackedOutcome};
 
 use answering::{Group, group_of};
 use jobs::longest;
 use marks::least_first;
 use model::{OPEN, Place, Ticks};
 use reading::{
-    LARGE_BYTES, LARGE_ROOM, LARGE_WORDS, SMALL_BYTES, SMALL_ROOM, SMALL_WORDS, any_delay, is_large,
+    LARGE_BYTES, LARGE_MARKS, LARGE_ROOM, LARGE_WORDS, SMALL_BYTES, SMALL_MARKS, SMALL_ROOM,
+    SMALL_WORDS, any_delay, is_large,
 };
-use response::{find_blocking, has_room};
+use response::{Told, find_blocking, has_room, pack};
 use tables::fields::count;
 use tables::{FOUR_PERIODS, Refusal, TASK_COUNT_AT};
 
@@ -47,37 +49,30 @@ pub fn analyse_past_period(table: &[u8], answers: &mut [u32], tried: &mut [u32])
         return Found::Refused(refusal);
     }
     if is_large(table) {
-        return analyse_large(table, answers, tried);
+        return analyse_sized::<LARGE_ROOM, LARGE_BYTES, LARGE_WORDS, LARGE_MARKS>(
+            table, answers, tried,
+        );
     }
-    analyse_small(table, answers, tried)
+    analyse_sized::<SMALL_ROOM, SMALL_BYTES, SMALL_WORDS, SMALL_MARKS>(table, answers, tried)
 }
 
-// Analyses a table with a right head, of at most 32 tasks: the room that versions 1 and 2 need is all that they are given.
-fn analyse_small(table: &[u8], answers: &mut [u32], tried: &mut [u32]) -> Found
-    requires { (head_check table.now ≡ Ok tt) × (task_count table.now ≤ 32) }
+// Analyses a table with a right head, of at most `ROOM` tasks, in columns of just that room: versions 1 and 2 are given no more than they need.
+fn analyse_sized<const ROOM: usize, const BYTES: usize, const WORDS: usize, const MARKS: usize>(
+    table: &[u8],
+    answers: &mut [u32],
+    tried: &mut [u32],
+) -> Found
+    requires sizes { Sizes ROOM BYTES WORDS × (MARKS ≡ ROOM + 1) }
+    requires table_fits { (head_check table.now ≡ Ok tt) × (task_count table.now ≤ ROOM) }
     ensures { PastOutcome (lending table.now answers.old tried.old) (leaving result answers.new tried.new) }
 {
-    let mut bytes = [0u8; SMALL_BYTES];
-    let mut words = [0u32; SMALL_WORDS];
+    let mut bytes = [0u8; BYTES];
+    let mut words = [0u32; WORDS];
     // the blocking of each task; a mark for each, and one more
-    let mut held = [0u32; SMALL_ROOM];
-    let mut marks = [0u32; SMALL_ROOM + 1];
+    let mut held = [0u32; ROOM];
+    let mut marks = [0u32; MARKS];
     analyse_in(
-        table, SMALL_ROOM, &mut bytes, &mut words, &mut held, &mut marks, answers, tried,
-    )
-}
-
-// The same for the 200 tasks that version 3 may have.
-fn analyse_large(table: &[u8], answers: &mut [u32], tried: &mut [u32]) -> Found
-    requires { (head_check table.now ≡ Ok tt) × (task_count table.now ≤ 200) }
-    ensures { PastOutcome (lending table.now answers.old tried.old) (leaving result answers.new tried.new) }
-{
-    let mut bytes = [0u8; LARGE_BYTES];
-    let mut words = [0u32; LARGE_WORDS];
-    let mut held = [0u32; LARGE_ROOM];
-    let mut marks = [0u32; LARGE_ROOM + 1];
-    analyse_in(
-        table, LARGE_ROOM, &mut bytes, &mut words, &mut held, &mut marks, answers, tried,
+        table, ROOM, &mut bytes, &mut words, &mut held, &mut marks, answers, tried,
     )
 }
 
@@ -227,38 +222,30 @@ fn said(word: u32, at: Place) -> Found
     Found::Schedulable
 }
 
-// The refusal's number; 0 for schedulable, 255 for late, 254 for open.
-pub fn code(found: Found) -> u32
-    ensures { result ≡ code_of found }
-{
-    match found {
-        Found::Refused(refusal) => tables::number(refusal),
-        Found::Delayed => 11,
-        Found::Schedulable => 0,
-        Found::Late(_) => 255,
-        Found::Open(_) => 254,
-    }
-}
+impl Told for Found {
+    ghost code_of = { code_of };
 
-// The refusal's place (a byte of the table, or 0), or that of the first task that is late or open.
-pub fn place(found: Found) -> usize
-    ensures { result ≡ found_place found }
-{
-    match found {
-        Found::Refused(refusal) => tables::place(refusal),
-        Found::Delayed => 0,
-        Found::Schedulable => 0,
-        Found::Late(at) => at.0,
-        Found::Open(at) => at.0,
-    }
-}
+    ghost place_of = { found_place };
 
-// The answer in one number: the code in the upper 32 bits, the place in the lower 32.
-fn pack(found: Found) -> u64
-    requires { found_place found < 65536 }
-    ensures { result ≡ packed found }
-{
-    (code(found) as u64) * 4294967296 + (place(found) as u64)
+    // The refusal's number; 0 for schedulable, 255 for late, 254 for open.
+    fn code(self) -> u32 {
+        match self {
+            Found::Refused(refusal) => tables::number(refusal),
+            Found::Delayed => 11,
+            Found::Schedulable => 0,
+            Found::Late(_) => 255,
+            Found::Open(_) => 254,
+        }
+    }
+
+    // The refusal's place (a byte of the table, or 0), or that of the first task that is late or open.
+    fn place(self) -> usize {
+        match self {
+            Found::Refused(refusal) => tables::place(refusal),
+            Found::Delayed | Found::Schedulable => 0,
+            Found::Late(at) | Found::Open(at) => at.0,
+        }
+    }
 }
 
 // What `analyse_past_period` says, in one number, for C (crates/overlaps_c).

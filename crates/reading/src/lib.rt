@@ -28,6 +28,11 @@ pub const LARGE_BYTES: usize = LARGE_ROOM + 2 * ROW_ROOM;
 
 pub const LARGE_WORDS: usize = 5 * LARGE_ROOM + ROW_ROOM;
 
+// A mark for each task, and one more.
+pub const SMALL_MARKS: usize = SMALL_ROOM + 1;
+
+pub const LARGE_MARKS: usize = LARGE_ROOM + 1;
+
 // May a table of this version have more tasks than the small room?
 pub fn is_large(table: &[u8]) -> bool
     requires { head_check table.now ≡ Ok tt }

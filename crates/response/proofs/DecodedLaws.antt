@@ -1,7 +1,7 @@
 -- Slices that hold a decoded table give the answers of the table that the bytes mean.
 -- Assumes nothing.
 use Rattle.std.specs.Prelude.{Ok}
-use Prim.Native.Nat.{ℕ, suc, ◌+◌, ◌*◌, ◌≤◌, ◌<◌}
+use Prim.Native.Nat.{ℕ, suc, ◌+◌, ◌≤◌, ◌<◌}
 use native.Mathlib.Omega.{arith}
 use mathlib.Core.Path.{◌≡◌, refl, sym, ◌∙◌, ap}
 use mathlib.Core.Bool.{true}
@@ -23,6 +23,7 @@ use Rattle.tables.specs.Meaning.{TableRightSpanning}
 use Rattle.tables.specs.Checks.{read_check}
 use Rattle.tables.proofs.LayoutLaws.{layout_sound, task_is, priority_at, tasks_count}
 use Rattle.records.proofs.ColumnLaws.{holds_filled}
+use Rattle.reading.specs.Sizes.{Sizes}
 use Rattle.reading.proofs.HeldLaws.{held_right}
 use Rattle.equation.specs.declared.Start.{Start}
 use Rattle.marks.specs.Marks.{PeriodsHigh}
@@ -78,10 +79,14 @@ zeros_lent room few =
     }
 
 -- columns of zeros
-pub columns_lent : {table : List ℕ} (room : ℕ) → task_count table ≤ room → {bytes words : ℕ} → bytes ≡ room + 128 → words ≡ 5 * room + 64 →
+pub columns_lent : {table : List ℕ} {room bytes words : ℕ} → Sizes room bytes words → task_count table ≤ room →
     Lent table room (replicate bytes 0) (replicate words 0)
-columns_lent room few {bytes} {words} b w =
-    record { tasks_fit = few; bytes_long = length-replicate {A = ℕ} bytes 0 ∙ b; words_long = length-replicate {A = ℕ} words 0 ∙ w }
+columns_lent {bytes = bytes} {words = words} sizes few =
+    record {
+      tasks_fit = few;
+      bytes_long = length-replicate {A = ℕ} bytes 0 ∙ sizes.bytes_are;
+      words_long = length-replicate {A = ℕ} words 0 ∙ sizes.words_are;
+    }
 
 module _ {span : ℕ} (bytes : List ℕ) (records : RecordColumn → List ℕ) (rows : RowColumn → List ℕ) (held : TableHeld span bytes records rows)
     (ranks : List ℕ) (ranks_held : Ranks bytes ranks) (n : ℕ) (tasks_counted : n ≡ task_count bytes) where

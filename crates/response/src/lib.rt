@@ -1,15 +1,16 @@
 // The public entry: the bytes of one table and two lent slices in, a verdict out, answers and rounds in the slices.
 #![tactic(auto)]
 
-ghost use Rattle.std.specs.Prelude.{◌≡◌, ℕ, ◌≤◌, ◌<◌, leb, length, Ok};
+ghost use Rattle.std.specs.Prelude.{◌≡◌, ℕ, ◌+◌, ◌*◌, ◌≤◌, ◌<◌, leb, length, Ok};
 ghost use Rattle.model.specs.Choice.{both};
 ghost use Rattle.model.specs.Lists.{filled};
 ghost use Rattle.tables.specs.Layout.{task_count, table_of};
 ghost use Rattle.tables.specs.Checks.{head_check};
 ghost use Rattle.records.specs.Columns.{record_columns, row_columns, Lent, TableHeld};
+ghost use Rattle.reading.specs.Sizes.{Sizes};
 ghost use Rattle.blocking.specs.Ceilings.{blocking_of};
 ghost use Rattle.blocking.specs.Sweep.{Zeros};
-ghost use Rattle.response.specs.Verdicts.{code_of, verdict_place, packed};
+ghost use Rattle.response.specs.Verdicts.{code_of, verdict_place};
 ghost use Rattle.response.specs.Outcome.{Outcome, lending, leaving};
 ghost use Rattle.response.specs.Packing.{PackedOutcome};
 ghost use Rattle.equation.specs.declared.Start.TheVariants.{EveryCost};
@@ -18,40 +19,56 @@ pub use answering::Verdict;
 use answering::answer_all;
 pub use equation::Start;
 use reading::{
-    LARGE_BYTES, LARGE_ROOM, LARGE_WORDS, ROW_ROOM, SMALL_BYTES, SMALL_ROOM, SMALL_WORDS, is_large,
+    LARGE_BYTES, LARGE_MARKS, LARGE_ROOM, LARGE_WORDS, ROW_ROOM, SMALL_BYTES, SMALL_MARKS,
+    SMALL_ROOM, SMALL_WORDS, is_large,
 };
 use tables::fields::count;
 use tables::{ONE_PERIOD, ROW_COUNT_AT, Refusal, TASK_COUNT_AT};
 
-// The refusal's number; 0 for schedulable, 255 for late.
-pub fn code(verdict: Verdict) -> u32
-    ensures { result ≡ code_of verdict }
-{
-    match verdict {
-        Verdict::Refused(refusal) => tables::number(refusal),
-        Verdict::Schedulable => 0,
-        Verdict::Late(_) => 255,
+// What is told as two numbers: which case it is, and the place that the case has, or 0.
+pub trait Told: Copy {
+    ghost code_of: { Self → ℕ };
+
+    ghost place_of: { Self → ℕ };
+
+    fn code(self) -> u32
+        ensures { result ≡ code_of self };
+
+    fn place(self) -> usize
+        ensures { result ≡ place_of self };
+}
+
+impl Told for Verdict {
+    ghost code_of = { code_of };
+
+    ghost place_of = { verdict_place };
+
+    // The refusal's number; 0 for schedulable, 255 for late.
+    fn code(self) -> u32 {
+        match self {
+            Verdict::Refused(refusal) => tables::number(refusal),
+            Verdict::Schedulable => 0,
+            Verdict::Late(_) => 255,
+        }
+    }
+
+    // The refusal's place (a byte of the table, or 0), or the first late task's.
+    fn place(self) -> usize {
+        match self {
+            Verdict::Refused(refusal) => tables::place(refusal),
+            Verdict::Schedulable => 0,
+            Verdict::Late(at) => at.0,
+        }
     }
 }
 
-// The refusal's place (a byte of the table, or 0), or the first late task's.
-pub fn place(verdict: Verdict) -> usize
-    ensures { result ≡ verdict_place verdict }
-{
-    match verdict {
-        Verdict::Refused(refusal) => tables::place(refusal),
-        Verdict::Schedulable => 0,
-        Verdict::Late(at) => at.0,
-    }
-}
-
-// The verdict in one number, for C: the code in the upper 32 bits, the place in the lower 32. A table states its length in two bytes,
+// Both in one number, for C: the code in the upper 32 bits, the place in the lower 32. A table states its length in two bytes,
 // so no place reaches 65,536.
-pub fn pack(verdict: Verdict) -> u64
-    requires { verdict_place verdict < 65536 }
-    ensures { result ≡ packed verdict }
+pub fn pack<T: Told>(told: T) -> u64
+    requires { T.place_of told < 65536 }
+    ensures { result ≡ T.code_of told * 4294967296 + T.place_of told }
 {
-    (code(verdict) as u64) * 4294967296 + (place(verdict) as u64)
+    u64::from(told.code()) * 4294967296 + told.place() as u64
 }
 
 // Any bytes and any slices get a verdict. A refusal changes no word; otherwise words 0 to n - 1 of `answers` and `rounds` are
@@ -71,37 +88,33 @@ pub fn analyse_from(start: Start, table: &[u8], answers: &mut [u32], rounds: &mu
         return Verdict::Refused(refusal);
     }
     if is_large(table) {
-        return analyse_large(start, table, answers, rounds);
+        return analyse_sized::<LARGE_ROOM, LARGE_BYTES, LARGE_WORDS, LARGE_MARKS>(
+            start, table, answers, rounds,
+        );
     }
-    analyse_small(start, table, answers, rounds)
-}
-
-// Analyses a table with a right head, of at most 32 tasks: the room that versions 1 and 2 need is all that they are given.
-fn analyse_small(start: Start, table: &[u8], answers: &mut [u32], rounds: &mut [u32]) -> Verdict
-    requires { (head_check table.now ≡ Ok tt) × (task_count table.now ≤ 32) }
-    ensures { Outcome start (lending table.now answers.old rounds.old) (leaving result answers.new rounds.new) }
-{
-    let mut bytes = [0u8; SMALL_BYTES];
-    let mut words = [0u32; SMALL_WORDS];
-    // the blocking of each task; a mark for each, and one more
-    let mut held = [0u32; SMALL_ROOM];
-    let mut marks = [0u32; SMALL_ROOM + 1];
-    analyse_in(
-        start, table, SMALL_ROOM, &mut bytes, &mut words, &mut held, &mut marks, answers, rounds,
+    analyse_sized::<SMALL_ROOM, SMALL_BYTES, SMALL_WORDS, SMALL_MARKS>(
+        start, table, answers, rounds,
     )
 }
 
-// The same for the 200 tasks that version 3 may have.
-fn analyse_large(start: Start, table: &[u8], answers: &mut [u32], rounds: &mut [u32]) -> Verdict
-    requires { (head_check table.now ≡ Ok tt) × (task_count table.now ≤ 200) }
+// Analyses a table with a right head, of at most `ROOM` tasks, in columns of just that room: versions 1 and 2 are given no more than they need.
+fn analyse_sized<const ROOM: usize, const BYTES: usize, const WORDS: usize, const MARKS: usize>(
+    start: Start,
+    table: &[u8],
+    answers: &mut [u32],
+    rounds: &mut [u32],
+) -> Verdict
+    requires sizes { Sizes ROOM BYTES WORDS × (MARKS ≡ ROOM + 1) }
+    requires table_fits { (head_check table.now ≡ Ok tt) × (task_count table.now ≤ ROOM) }
     ensures { Outcome start (lending table.now answers.old rounds.old) (leaving result answers.new rounds.new) }
 {
-    let mut bytes = [0u8; LARGE_BYTES];
-    let mut words = [0u32; LARGE_WORDS];
-    let mut held = [0u32; LARGE_ROOM];
-    let mut marks = [0u32; LARGE_ROOM + 1];
+    let mut bytes = [0u8; BYTES];
+    let mut words = [0u32; WORDS];
+    // the blocking of each task; a mark for each, and one more
+    let mut held = [0u32; ROOM];
+    let mut marks = [0u32; MARKS];
     analyse_in(
-        start, table, LARGE_ROOM, &mut bytes, &mut words, &mut held, &mut marks, answers, rounds,
+        start, table, ROOM, &mut bytes, &mut words, &mut held, &mut marks, answers, rounds,
     )
 }
 

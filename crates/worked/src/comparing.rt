@@ -2,7 +2,7 @@
 ghost use Rattle.std.specs.Prelude.{◌≡◌};
 ghost use Rattle.worked.specs.Compared.{same_words, same_outcome};
 
-use response::{Verdict, code, place};
+use response::{Told, Verdict};
 
 // Are these the same words?
 fn same(one: &[u32], other: &[u32]) -> bool
@@ -23,10 +23,10 @@ fn same(one: &[u32], other: &[u32]) -> bool
 pub fn same_outcome(verdict: Verdict, other: Verdict, answers: &[u32], others: &[u32]) -> bool
     ensures { result ≡ same_outcome verdict other answers.now others.now }
 {
-    if code(verdict) != code(other) {
+    if verdict.code() != other.code() {
         return false;
     }
-    if place(verdict) != place(other) {
+    if verdict.place() != other.place() {
         return false;
     }
     same(answers, others)

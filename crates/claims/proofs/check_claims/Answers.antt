@@ -9,10 +9,10 @@ use Rattle.claims.proofs.check_claims.Goals as goal
 pub returns-in-Err : goal.returns-in-Err
 returns-in-Err c = read_refused _ _ _ (head_decides _ _ _ (sym c.in-Err.is ∙ c.check-head.ensures))
 
-pub check_large-requires : goal.check_large-requires
-check_large-requires c = let clean = sym c.check-head.ensures ∙ c.in_default.is in
+pub check_sized-requires-clause-table_fits : goal.check_sized-requires-clause-table_fits
+check_sized-requires-clause-table_fits c = let clean = sym c.check-head.ensures ∙ c.in_default.is in
     (clean, large_fits _ clean)
 
-pub check_small-requires : goal.check_small-requires
-check_small-requires c = let clean = sym c.check-head.ensures ∙ c.in_default.is in
+pub check_sized-requires-2-clause-table_fits : goal.check_sized-requires-2-clause-table_fits
+check_sized-requires-2-clause-table_fits c = let clean = sym c.check-head.ensures ∙ c.in_default.is in
     (clean, small_fits _ clean c.is_large.ensures c.if-is_large.false)

@@ -9,10 +9,10 @@ use Rattle.engine.proofs.play.Goals as goal
 pub returns-in-Err : goal.returns-in-Err
 returns-in-Err c = read_refused _ _ _ (head_decides _ _ _ (sym c.in-Err.is ∙ c.check-head.ensures))
 
-pub play_large-requires : goal.play_large-requires
-play_large-requires c = let clean = sym c.check-head.ensures ∙ c.in_default.is in
+pub play_sized-requires-clause-table_fits : goal.play_sized-requires-clause-table_fits
+play_sized-requires-clause-table_fits c = let clean = sym c.check-head.ensures ∙ c.in_default.is in
     (clean, large_fits _ clean)
 
-pub play_small-requires : goal.play_small-requires
-play_small-requires c = let clean = sym c.check-head.ensures ∙ c.in_default.is in
+pub play_sized-requires-2-clause-table_fits : goal.play_sized-requires-2-clause-table_fits
+play_sized-requires-2-clause-table_fits c = let clean = sym c.check-head.ensures ∙ c.in_default.is in
     (clean, small_fits _ clean c.is_large.ensures c.if-is_large.false)

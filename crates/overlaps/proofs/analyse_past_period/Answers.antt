@@ -9,10 +9,10 @@ use Rattle.overlaps.proofs.analyse_past_period.Goals as goal
 pub returns-in-Err : goal.returns-in-Err
 returns-in-Err c = read_refused _ _ _ _ (head_decides _ _ _ (sym c.in-Err.is ∙ c.check-head.ensures))
 
-pub analyse_large-requires : goal.analyse_large-requires
-analyse_large-requires c = let clean = sym c.check-head.ensures ∙ c.in_default.is in
+pub analyse_sized-requires-clause-table_fits : goal.analyse_sized-requires-clause-table_fits
+analyse_sized-requires-clause-table_fits c = let clean = sym c.check-head.ensures ∙ c.in_default.is in
     (clean, large_fits _ clean)
 
-pub analyse_small-requires : goal.analyse_small-requires
-analyse_small-requires c = let clean = sym c.check-head.ensures ∙ c.in_default.is in
+pub analyse_sized-requires-2-clause-table_fits : goal.analyse_sized-requires-2-clause-table_fits
+analyse_sized-requires-2-clause-table_fits c = let clean = sym c.check-head.ensures ∙ c.in_default.is in
     (clean, small_fits _ clean c.is_large.ensures c.if-is_large.false)
