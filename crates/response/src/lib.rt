@@ -62,8 +62,8 @@ impl Told for Verdict {
     }
 }
 
-// Both in one number, for C: the code in the upper 32 bits, the place in the lower 32. A table states its length in two bytes,
-// so no place reaches 65,536.
+// Both in one number, for C: the code in the upper 32 bits, the place in the lower 32. No place of a table's reaches 65,536, since a table
+// states its length in two bytes.
 pub fn pack<T: Told>(told: T) -> u64
     requires { T.place_of told < 65536 }
     ensures { result ≡ T.code_of told * 4294967296 + T.place_of told }
