@@ -60,21 +60,6 @@ module _ (d : Decoded) (n : ℕ) where
   pub result_none : Schedulable ≡ result_of (answer_in d n) 0
   result_none = sym (first_none is_schedulable Schedulable refl (late_at (answer_in d n)))
 
-  -- one cost more, and it fits a word
-  pub reached_more : (i end sum reached : ℕ) → Walking d n i end sum reached →
-      reached + get_or d.costs i 0 ≡ total (word_of d.costs) (i + 1)
-  unfolding total
-  reached_more i end sum reached a = rw add-one (omega (arith, a.summed))
-
-  pub reached_fits : (i end sum reached : ℕ) → Walking d n i end sum reached → i < n →
-      reached + get_or d.costs i 0 ≤ 200000000
-  reached_fits i end sum reached a h =
-      omega (
-        arith,
-        reached_more i end sum reached a,
-        costs_high d.priorities d.costs n a.fits.ranked (i + 1) (omega arith),
-      )
-
   -- cost and blocking fit a word
   pub base_fits : (i : ℕ) → DecodedFits d n → i < n → get_or d.costs i 0 + get_or d.held i 0 ≤ 2000000
   base_fits i f h = omega (arith, f.held_high i h, f.loads_fit.each i h)
@@ -186,12 +171,13 @@ module _ (d : Decoded) (n : ℕ) where
         unfolding rounds_in
         rounds_are_law = rw loads_are at (rw first_is_law at solved.rounds)
 
-    pub walking_more : (reached : ℕ) → Walking d n i before_end before_sum reached → Walking d n (i + 1) end sum (reached + get_or d.costs i 0)
-    walking_more reached a =
+    pub walking_more : (before reached : ℕ) → Walking d n i before_end before_sum before → reached ≡ total (word_of d.costs) (i + 1) →
+        Walking d n (i + 1) end sum reached
+    walking_more before reached a is =
         record {
           fits = f;
           within = omega arith;
-          summed = reached_more i before_end before_sum reached a;
+          summed = is;
           group = group_next d.priorities d.costs n f.ranked i before_end before_sum count all end sum h found a.group;
         }
 

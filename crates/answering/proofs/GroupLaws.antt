@@ -39,6 +39,15 @@ module _ (priorities costs : List ℕ) where
   pub costs_high : (n : ℕ) → Ranked priorities costs n → (k : ℕ) → k ≤ n → total (word_of costs) k ≤ 200000000
   costs_high n r k h = omega (arith, total_high (word_of costs) k 1000000 (λ j l. r.cost_high j (omega arith)), r.few)
 
+  -- one cost more, and it fits a word
+  pub reached_more : (i before : ℕ) → before ≡ total (word_of costs) i → before + word_of costs i ≡ total (word_of costs) (i + 1)
+  unfolding total
+  reached_more i before is = rw add-one (omega (arith, is))
+
+  pub reached_fits : (n : ℕ) → Ranked priorities costs n → (i before : ℕ) → i < n → before ≡ total (word_of costs) i →
+      before + word_of costs i ≤ 200000000
+  reached_fits n r i before h is = omega (arith, reached_more i before is, costs_high n r (i + 1) (omega arith))
+
   module _ (n : ℕ) (r : Ranked priorities costs n) (i : ℕ) where
     -- where they end is how many they are
     count_cut : (m : ℕ) → m ≤ n → Cut priorities m i (group_end priorities m i)

@@ -1,2 +1,3 @@
 pub mod Results
 pub mod Slices
+pub mod Lent

@@ -5,11 +5,13 @@ ghost use Rattle.std.specs.Prelude.{◌≡◌, ◌+◌, ◌≤◌, ◌<◌, leng
 ghost use Rattle.model.specs.Choice.{pick};
 ghost use Rattle.model.specs.Lists.{total, word_of};
 ghost use Rattle.marks.specs.Marks.{PeriodsHigh};
+ghost use Rattle.solver.specs.Solver.{is_late};
 ghost use Rattle.answering.specs.declared.Verdict.TheVariants.{Late};
 ghost use Rattle.answering.specs.Results.{is_schedulable};
-ghost use Rattle.answering.specs.Slices.{decoded, DecodedFits, Ranked, GroupBefore, GroupFound, slice, Answered};
+ghost use Rattle.answering.specs.Slices.{DecodedFits, Ranked, GroupBefore, GroupFound, slice, Answered};
+ghost use Rattle.answering.specs.Lent.{decoded_from};
 
-use equation::{Start, first_term};
+use equation::{Loads, Start, first_term};
 use marks::least_first;
 use model::{Place, Ticks};
 use solver::solve;
@@ -23,55 +25,70 @@ pub enum Verdict {
     Late(Place),
 }
 
-// The verdict with one answer more: the first late place stays.
-fn with_answer(verdict: Verdict, late: bool, at: Place) -> Verdict
-    ensures { result ≡ pick late (pick (is_schedulable verdict) (Late at) verdict) verdict }
+// The verdict with one answer more, none where the task is late: the first late place stays.
+fn with_answer(verdict: Verdict, response: Option<Ticks>, at: Place) -> Verdict
+    ensures { result ≡ pick (is_late response) (pick (is_schedulable verdict) (Late at) verdict) verdict }
 {
-    if !late {
-        return verdict;
-    }
-    match verdict {
-        Verdict::Refused(refusal) => Verdict::Refused(refusal),
-        Verdict::Schedulable => Verdict::Late(at),
-        Verdict::Late(first) => Verdict::Late(first),
+    match (verdict, response) {
+        (Verdict::Schedulable, None) => Verdict::Late(at),
+        (before, _) => before,
     }
 }
 
-// What is known of the tasks that share a task's priority, its group.
+// The n tasks of a decoded table, and their blocking: a number for each in each slice.
 #[derive(Clone, Copy)]
+pub struct Tasks<'a> {
+    pub priorities: &'a [u8],
+    pub periods: &'a [u32],
+    pub costs: &'a [u32],
+    pub deadlines: &'a [u32],
+    pub spreads: &'a [u32],
+    pub latest: &'a [u32],
+    pub held: &'a [u32],
+    pub n: usize,
+}
+
+// What is known of the tasks that share a task's priority, its group.
+#[derive(Clone, Copy, Debug, PartialEq, Eq)]
 pub struct Group {
     // the task's loads are those of so many places, without its own
     pub count: usize,
     // one cost of every task up to the end of its group, its own with them
     pub all: Ticks,
+    // one cost of every task up to the task itself, its own with them
+    pub reached: Ticks,
     // where the last group ends that was looked for, and one cost of every task before that end
     pub end: usize,
     pub costs: Ticks,
 }
 
-// The group of the task at place i. `reached` is one cost of every task up to it, `before` what is known from the task before. No place is
-// looked at twice for an end.
-pub fn group_of(
-    priorities: &[u8],
-    costs: &[u32],
-    n: usize,
-    before: Group,
-    reached: Ticks,
-    i: usize,
-) -> Group
-    requires ranked { Ranked priorities.now costs.now n × (i < n) }
-    requires group_before { GroupBefore priorities.now costs.now n i before.end before.costs.0 × (reached.0 ≡ total (word_of costs.now) (i + 1)) }
-    ensures { GroupFound priorities.now costs.now n i before.end before.costs.0 result.count result.all.0 result.end result.costs.0 }
+// Before the first task nothing is known, and no cost is there.
+pub const NO_GROUP: Group = Group {
+    count: 0,
+    all: Ticks(0),
+    reached: Ticks(0),
+    end: 0,
+    costs: Ticks(0),
+};
+
+// The group of the task at place i. `before` is what is known from the task before. No place is looked at twice for an end.
+pub fn group_of(tasks: Tasks, before: Group, i: usize) -> Group
+    requires ranked { Ranked tasks.priorities.now tasks.costs.now tasks.n × (i < tasks.n) }
+    requires group_before { GroupBefore tasks.priorities.now tasks.costs.now tasks.n i before.end before.costs.0 × (before.reached.0 ≡ total (word_of tasks.costs.now) i) }
+    ensures group_found { GroupFound tasks.entry.priorities.now tasks.entry.costs.now tasks.entry.n i before.end before.costs.0 result.count result.all.0 result.end result.costs.0 }
+    ensures reached { result.reached.0 ≡ total (word_of tasks.entry.costs.now) (i + 1) }
 {
-    let own = priorities[i];
+    let own = tasks.priorities[i];
+    let reached = Ticks(before.reached.0 + tasks.costs[i]);
     // where the next priority is another, the group ends here. (The byte behind the last one may be anything: where it is the same, the end
     // is looked for.)
-    if priorities[i + 1] != own {
+    if tasks.priorities[i + 1] != own {
         return Group {
             count: i,
             all: reached,
+            reached,
             end: before.end,
-            costs: Ticks(before.costs.0),
+            costs: before.costs,
         };
     }
     let known = before.end;
@@ -79,83 +96,75 @@ pub fn group_of(
     if i < known {
         return Group {
             count: known,
-            all: Ticks(sum),
+            all: before.costs,
+            reached,
             end: known,
-            costs: Ticks(sum),
+            costs: before.costs,
         };
     }
-    for k in known..n {
-        if priorities[k] < own {
+    for k in known..tasks.n {
+        if tasks.priorities[k] < own {
             return Group {
                 count: k,
                 all: Ticks(sum),
+                reached,
                 end: k,
                 costs: Ticks(sum),
             };
         }
-        sum += costs[k];
+        sum += tasks.costs[k];
     }
     Group {
-        count: n,
+        count: tasks.n,
         all: Ticks(sum),
-        end: n,
+        reached,
+        end: tasks.n,
         costs: Ticks(sum),
     }
 }
 
-// Answers and rounds of the n tasks, each from its own first term on; `held` has their blocking. Groups and their costs are found along the
-// way. The words of `marks` are scratch, one for each task and one more, made once for a table.
+// Answers and rounds of the tasks, each from its own first term on. Groups and their costs are found along the way. The words of `marks` are
+// scratch, one for each task and one more, made once for a table.
 pub fn answer_all(
     start: Start,
-    priorities: &[u8],
-    periods: &[u32],
-    costs: &[u32],
-    deadlines: &[u32],
-    spreads: &[u32],
-    latest: &[u32],
-    n: usize,
-    held: &[u32],
+    tasks: Tasks,
     answers: &mut [u32],
     rounds: &mut [u32],
     marks: &mut [u32],
 ) -> Verdict
-    requires decoded_fits { DecodedFits (decoded priorities.now periods.now costs.now deadlines.now spreads.now latest.now held.now) n }
-    requires periods_high { PeriodsHigh periods.now n × (n < length marks.old) }
-    requires n_in_bounds { (n ≤ length answers.old) × (n ≤ length rounds.old) }
-    ensures { Answered start (decoded priorities.now periods.now costs.now deadlines.now spreads.now latest.now held.now) n result (slice answers.old answers.new) (slice rounds.old rounds.new) }
+    requires decoded_fits { DecodedFits (decoded_from tasks) tasks.n }
+    requires periods_high { PeriodsHigh tasks.periods.now tasks.n × (tasks.n < length marks.old) }
+    requires n_in_bounds { (tasks.n ≤ length answers.old) × (tasks.n ≤ length rounds.old) }
+    ensures { Answered start (decoded_from tasks.entry) tasks.entry.n result (slice answers.old answers.new) (slice rounds.old rounds.new) }
 {
-    let mut group = Group {
-        count: 0,
-        all: Ticks(0),
-        end: 0,
-        costs: Ticks(0),
-    };
-    let mut reached = Ticks(0);
+    let least = least_first(tasks.periods, tasks.spreads, tasks.n);
+    let mut group = NO_GROUP;
     let mut verdict = Verdict::Schedulable;
-    let least = least_first(periods, spreads, n);
-    for i in 0..n {
-        let cost = Ticks(costs[i]);
-        reached = Ticks(reached.0 + cost.0);
-        group = group_of(priorities, costs, n, group, reached, i);
+    for i in 0..tasks.n {
+        group = group_of(tasks, group, i);
+        let loads = Loads {
+            periods: tasks.periods,
+            costs: tasks.costs,
+            spreads: tasks.spreads,
+            own: i,
+            count: group.count,
+        };
+        let cost = Ticks(tasks.costs[i]);
         let others = Ticks(group.all.0 - cost.0);
-        let base = Ticks(cost.0 + held[i]);
+        let base = Ticks(cost.0 + tasks.held[i]);
         let solved = solve(
-            periods,
-            costs,
-            spreads,
-            i,
-            group.count,
+            loads,
             base,
             others,
             first_term(start, base, others),
             least,
-            Ticks(latest[i]),
-            Ticks(deadlines[i]),
+            Ticks(tasks.latest[i]),
+            Ticks(tasks.deadlines[i]),
             marks,
         );
-        answers[i] = solved.response.0;
+        answers[i] = solved.response.map_or(0, |response| response.0);
         rounds[i] = solved.rounds;
-        verdict = with_answer(verdict, solved.late, Place(i));
+        verdict = with_answer(verdict, solved.response, Place(i));
     }
     verdict
 }

@@ -10,7 +10,7 @@ use lib.Dec.{leb}
 use lib.ListN.{get_or}
 use borrow.Author.Tests.{le-leb, lt-leb, leb-true}
 use Rattle.model.specs.Choice.{both}
-use Rattle.model.specs.Lists.{word_of}
+use Rattle.model.specs.Lists.{total, word_of}
 use Rattle.model.specs.Tables.{Load}
 use Rattle.model.proofs.Tests.{bool?, clash, refuted, confirmed, both_true, both_pass, both_fail}
 use Rattle.model.proofs.First.{first_none, first_on, first_stop, all_clean, none_found, first_found}
@@ -138,9 +138,9 @@ module _ (d : Decoded) (n : ℕ) (claims : List ℕ) where
     pub turn_fails : not b ≡ true → Fails (at i) ≡ compared_of (passes_in d n claims) n
     turn_fails p = compared_stop (passes_in d n claims) i n a.passed (refuted same_test p) h
 
-    pub turn_passes : not b ≡ false → Checking d n claims (i + 1) end sum (reached + get_or d.costs i 0)
-    turn_passes p =
+    pub turn_passes : not b ≡ false → (next : ℕ) → next ≡ total (word_of d.costs) (i + 1) → Checking d n claims (i + 1) end sum next
+    turn_passes p next is =
         record {
-          walking = walking_more d n i a.walking.fits h before_end before_sum count all end sum found reached a.walking;
+          walking = walking_more d n i a.walking.fits h before_end before_sum count all end sum found reached next a.walking is;
           passed = compared_on (passes_in d n claims) i a.passed (confirmed same_test p);
         }

@@ -9,14 +9,15 @@ ghost use Rattle.records.specs.Columns.{record_columns, row_columns, Lent, Table
 ghost use Rattle.reading.specs.Sizes.{Sizes};
 ghost use Rattle.blocking.specs.Sweep.{Zeros};
 ghost use Rattle.equation.specs.Laws.{cost_of};
-ghost use Rattle.equation.specs.Slices.{loads, LoadsFit};
-ghost use Rattle.answering.specs.Slices.{decoded, DecodedFits};
+ghost use Rattle.equation.specs.Lent.{loads_from, Fit};
+ghost use Rattle.answering.specs.Slices.{DecodedFits};
+ghost use Rattle.answering.specs.Lent.{decoded_from};
 ghost use Rattle.claims.specs.Claims.{claim_passes, compared_of, Checked};
 ghost use Rattle.claims.specs.Columns.{passes_in};
 ghost use Rattle.claims.specs.Numbers.{code_of, claimed_place, packed};
 
-use answering::{Group, group_of};
-use equation::demand;
+use answering::{NO_GROUP, Tasks, group_of};
+use equation::Loads;
 use model::{Place, Ticks};
 use reading::{
     LARGE_BYTES, LARGE_ROOM, LARGE_WORDS, SMALL_BYTES, SMALL_ROOM, SMALL_WORDS, is_large,
@@ -109,103 +110,66 @@ fn check_table(
     let n = count(table[TASK_COUNT_AT]);
     find_blocking(table, room, bytes, words, held);
     // of the words: periods, costs, deadlines, spreads, latest delays
-    check_all(
-        bytes,
-        &words[0..room],
-        &words[room..2 * room],
-        &words[2 * room..3 * room],
-        &words[3 * room..4 * room],
-        &words[4 * room..5 * room],
-        n,
+    let tasks = Tasks {
+        priorities: bytes,
+        periods: &words[0..room],
+        costs: &words[room..2 * room],
+        deadlines: &words[2 * room..3 * room],
+        spreads: &words[3 * room..4 * room],
+        latest: &words[4 * room..5 * room],
         held,
-        claims,
-    )
+        n,
+    };
+    check_all(tasks, claims)
 }
 
-// The first of n claims that fails, over the columns of a decoded table.
-fn check_all(
-    priorities: &[u8],
-    periods: &[u32],
-    costs: &[u32],
-    deadlines: &[u32],
-    spreads: &[u32],
-    latest: &[u32],
-    n: usize,
-    held: &[u32],
-    claims: &[u32],
-) -> Claimed
-    requires decoded_fits { DecodedFits (decoded priorities.now periods.now costs.now deadlines.now spreads.now latest.now held.now) n }
-    requires n_in_bounds { n ≤ length claims.now }
-    ensures { result ≡ compared_of (passes_in (decoded priorities.now periods.now costs.now deadlines.now spreads.now latest.now held.now) n claims.now) n }
+// The first claim that fails, over the columns of a decoded table.
+fn check_all(tasks: Tasks, claims: &[u32]) -> Claimed
+    requires decoded_fits { DecodedFits (decoded_from tasks) tasks.n }
+    requires n_in_bounds { tasks.n ≤ length claims.now }
+    ensures { result ≡ compared_of (passes_in (decoded_from tasks.entry) tasks.entry.n claims.now) tasks.entry.n }
 {
-    let mut group = Group {
-        count: 0,
-        all: Ticks(0),
-        end: 0,
-        costs: Ticks(0),
-    };
-    let mut reached = Ticks(0);
-    for i in 0..n {
-        let cost = Ticks(costs[i]);
-        reached = Ticks(reached.0 + cost.0);
-        group = group_of(priorities, costs, n, group, reached, i);
-        let others = Ticks(group.all.0 - cost.0);
-        let base = Ticks(cost.0 + held[i]);
-        let own_latest = Ticks(latest[i]);
-        let deadline = Ticks(deadlines[i]);
-        let claim = Ticks(claims[i]);
-        if !passes(
-            periods,
-            costs,
-            spreads,
-            i,
-            group.count,
-            base,
-            others,
-            own_latest,
-            deadline,
-            claim,
-        ) {
+    let mut group = NO_GROUP;
+    for i in 0..tasks.n {
+        group = group_of(tasks, group, i);
+        let loads = Loads {
+            periods: tasks.periods,
+            costs: tasks.costs,
+            spreads: tasks.spreads,
+            own: i,
+            count: group.count,
+        };
+        let cost = tasks.costs[i];
+        let base = Ticks(cost + tasks.held[i]);
+        let others = Ticks(group.all.0 - cost);
+        let latest = Ticks(tasks.latest[i]);
+        let deadline = Ticks(tasks.deadlines[i]);
+        if !passes(loads, base, others, latest, deadline, Ticks(claims[i])) {
             return Claimed::Fails(Place(i));
         }
     }
     Claimed::Pass
 }
 
-// "w = r minus the latest delay", for a claim r that is not below it.
-fn window(claim: Ticks, latest: Ticks) -> Ticks
-    requires { latest.0 ≤ claim.0 }
-    ensures { result.0 ≡ claim.0 - latest.0 }
-{
-    Ticks(claim.0 - latest.0)
-}
-
-// Does the claim of the task at place `own` pass? Its loads are those of the first `count` places without its own, and `others` is one cost of
-// each. No tick is taken off a claim that is too small, and nothing is asked for one that is past the deadline.
+// Does a task's claim pass? `others` is one cost of each of its loads. "w = r minus the latest delay", for a claim r: no tick is taken off one
+// that is too small, and nothing is asked for one that is past the deadline.
 fn passes(
-    periods: &[u32],
-    costs: &[u32],
-    spreads: &[u32],
-    own: usize,
-    count: usize,
+    loads: Loads,
     base: Ticks,
     others: Ticks,
     latest: Ticks,
     deadline: Ticks,
     claim: Ticks,
 ) -> bool
-    requires loads_fit { LoadsFit periods.now costs.now spreads.now count × (own ≤ count) × (others.0 ≡ sum_of cost_of (loads periods.now costs.now spreads.now own count)) }
+    requires loads_fit { Fit loads loads.count × (loads.own ≤ loads.count) × (others.0 ≡ sum_of cost_of (loads_from loads)) }
     requires deadline_bound { deadline.0 ≤ 1000000 }
-    ensures { result ≡ claim_passes base.0 (loads periods.now costs.now spreads.now own count) latest.0 deadline.0 claim.0 }
+    ensures { result ≡ claim_passes base.0 (loads_from loads.entry) latest.0 deadline.0 claim.0 }
 {
-    if claim.0 <= latest.0 {
+    if claim.0 <= latest.0 || deadline.0 < claim.0 {
         return false;
     }
-    if deadline.0 < claim.0 {
-        return false;
-    }
-    let w = window(claim, latest);
-    demand(periods, costs, spreads, own, count, base, others, w) <= w.0 as u64
+    let w = Ticks(claim.0 - latest.0);
+    loads.demand(base, others, w) <= u64::from(w.0)
 }
 
 impl Told for Claimed {

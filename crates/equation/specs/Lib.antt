@@ -5,3 +5,4 @@ pub mod Sequence
 pub mod Slices
 pub mod Laws
 pub mod Starts
+pub mod Lent

@@ -5,14 +5,15 @@ ghost use Rattle.std.specs.Prelude.{◌≡◌, ◌+◌, ◌-◌, ◌≤◌};
 ghost use Rattle.model.specs.Lists.{total, sum_of};
 ghost use Rattle.equation.specs.Rounding.{ceil_div};
 ghost use Rattle.equation.specs.Demand as spec;
-ghost use Rattle.equation.specs.Slices.{load, loads, more, more_at, LoadFits, LoadsFit};
+ghost use Rattle.equation.specs.Slices.{load, more, LoadFits};
+ghost use Rattle.equation.specs.Lent.{loads_from, more_from, Fit};
 ghost use Rattle.equation.specs.Laws.{cost_of};
 ghost use Rattle.equation.specs.Starts.{first_term};
 
 use model::Ticks;
 
 // Where the written sequence starts (SPECIFICATION 5.1; document 02, L5). Both starts lead to the same answers; the rounds differ.
-#[derive(Clone, Copy)]
+#[derive(Clone, Copy, Debug, PartialEq, Eq)]
 pub enum Start {
     // The default: the task's cost and blocking, and one cost of every task that interferes with it, as source document 002 has it.
     EveryCost,
@@ -55,54 +56,49 @@ fn with_load(sum: u64, period: Ticks, cost: Ticks, spread: Ticks, w: Ticks) -> u
     if window.0 <= period.0 {
         return sum;
     }
-    sum + (cost.0 as u64) * ((div_up(window, period) - 1) as u64)
+    sum + u64::from(cost.0) * u64::from(div_up(window, period) - 1)
 }
 
-// The sum with what the loads of some places, those from `from` on and before `to`, if there are any, ask for in w ticks, at least one, beside
-// one cost each.
-fn with_more(
-    sum: u64,
-    periods: &[u32],
-    costs: &[u32],
-    spreads: &[u32],
-    from: usize,
-    to: usize,
-    w: Ticks,
-) -> u64
-    requires loads_fit { LoadsFit periods.now costs.now spreads.now to }
-    requires le_w { (1 ≤ w.0) × (w.0 ≤ 1000000000) × («sum» ≤ 1000000000000000000) }
-    ensures { result ≡ «sum» + (total (more_at periods.now costs.now spreads.now w.0) to - total (more_at periods.now costs.now spreads.now w.0) from) }
-{
-    let mut all = sum;
-    for k in from..to {
-        all = with_load(
-            all,
-            Ticks(periods[k]),
-            Ticks(costs[k]),
-            Ticks(spreads[k]),
-            w,
-        );
+// The loads of one task, over the periods, costs and spreads of a table's tasks: those of the first `count` places but for place `own`.
+#[derive(Clone, Copy)]
+pub struct Loads<'a> {
+    pub periods: &'a [u32],
+    pub costs: &'a [u32],
+    pub spreads: &'a [u32],
+    pub own: usize,
+    pub count: usize,
+}
+
+impl Loads<'_> {
+    // The sum with what the loads of some places, those from `from` on and before `to`, if there are any, ask for in w ticks, at least one,
+    // beside one cost each.
+    fn with_more(self, sum: u64, from: usize, to: usize, w: Ticks) -> u64
+        requires loads_fit { Fit self to }
+        requires le_w { (1 ≤ w.0) × (w.0 ≤ 1000000000) × («sum» ≤ 1000000000000000000) }
+        ensures { result ≡ «sum» + (total (more_from self.entry w.0) to - total (more_from self.entry w.0) from) }
+    {
+        let mut all = sum;
+        for k in from..to {
+            all = with_load(
+                all,
+                Ticks(self.periods[k]),
+                Ticks(self.costs[k]),
+                Ticks(self.spreads[k]),
+                w,
+            );
+        }
+        all
     }
-    all
-}
 
-// What the task at place `own` and its loads ask for in w ticks, at least one: the loads are those of the first `count` places without its own,
-// which is one of them or the next, and `others` is one cost of each.
-pub fn demand(
-    periods: &[u32],
-    costs: &[u32],
-    spreads: &[u32],
-    own: usize,
-    count: usize,
-    base: Ticks,
-    others: Ticks,
-    w: Ticks,
-) -> u64
-    requires loads_fit { LoadsFit periods.now costs.now spreads.now count × (own ≤ count) × (others.0 ≡ sum_of cost_of (loads periods.now costs.now spreads.now own count)) }
-    requires le_w { (1 ≤ w.0) × (w.0 ≤ 1000000000) }
-    ensures { result ≡ spec.demand base.0 (loads periods.now costs.now spreads.now own count) w.0 }
-{
-    let once = (base.0 as u64) + (others.0 as u64);
-    let before = with_more(once, periods, costs, spreads, 0, own, w);
-    with_more(before, periods, costs, spreads, own + 1, count, w)
+    // What a task and its loads ask for in w ticks, at least one: `base` is its cost and blocking, and `others` is one cost of each load. The
+    // task's own place is one of the first `count` or the next.
+    pub fn demand(self, base: Ticks, others: Ticks, w: Ticks) -> u64
+        requires loads_fit { Fit self self.count × (self.own ≤ self.count) × (others.0 ≡ sum_of cost_of (loads_from self)) }
+        requires le_w { (1 ≤ w.0) × (w.0 ≤ 1000000000) }
+        ensures { result ≡ spec.demand base.0 (loads_from self.entry) w.0 }
+    {
+        let once = u64::from(base.0) + u64::from(others.0);
+        let before = self.with_more(once, 0, self.own, w);
+        self.with_more(before, self.own + 1, self.count, w)
+    }
 }

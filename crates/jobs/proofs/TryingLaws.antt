@@ -3,7 +3,7 @@
 use Prim.Native.Nat.{ℕ, ◌+◌, ◌*◌, ◌-◌, ◌≤◌, ◌<◌, max}
 use native.Mathlib.Omega.{arith}
 use native.Mathlib.Decide.{ℕ_discrete}
-use mathlib.Core.Path.{◌≡◌, sym, ◌∙◌, ap, subst}
+use mathlib.Core.Path.{◌≡◌, refl, sym, ◌∙◌, ap, subst}
 use mathlib.Core.Bool.{Bool, true, false}
 use mathlib.Core.List.{List}
 use lib.Dec.{eqb, leb}
@@ -44,6 +44,7 @@ module _ (periods costs spreads : List ℕ) (own count blocked cost period deadl
     pub limit_high : limit ≤ 1000000 * q + 1000000
     pub base_high : base ≤ 1000000 * q + 2000000
     pub largest_is : largest ≡ largest_to (response_at subject) q
+    pub largest_high : largest ≤ 1000000
     pub above : passed < x
     pub x_high : x ≤ 1000000000
     pub not_above : NotAbove base (loads periods costs spreads own count) x
@@ -78,6 +79,7 @@ module _ (periods costs spreads : List ℕ) (own count blocked cost period deadl
         limit_high = omega (arith, a.numbers.deadline_high);
         base_high = omega (arith, a.numbers.blocking_high, a.numbers.cost_high);
         largest_is = sym (largest_none (response_at subject));
+        largest_high = omega arith;
         above = a.start_low;
         x_high = a.start_high;
         not_above = a.not_above;
@@ -171,17 +173,15 @@ module _ (periods costs spreads : List ℕ) (own count blocked cost period deadl
         }
 
     -- the sequence is late
-    pub turn_late : q < 64 → (window spent : ℕ) (after : List ℕ) (new_least : ℕ) → (late : Bool) →
-        FollowedBy periods costs spreads own count base x 0 limit late window spent after new_least → late ≡ true → LongestBy subject 0 (q + 1)
-    turn_late h window spent after new_least late followed taken =
-        late_by subject q h t.going
-        (solved_late subject q x 0 spent
-        (rw (t.base_is, t.limit_is) at (rw taken at followed.solved)))
+    pub turn_late : q < 64 → (window spent : ℕ) (after : List ℕ) (new_least : ℕ) →
+        FollowedBy periods costs spreads own count base x 0 limit true window spent after new_least → LongestBy subject 0 (q + 1)
+    turn_late h window spent after new_least followed =
+        late_by subject q h t.going (solved_late subject q x 0 spent (rw (t.base_is, t.limit_is) at followed.solved))
 
-    module _ (window spent : ℕ) (after : List ℕ) (new_least : ℕ) (late : Bool)
-        (followed : FollowedBy periods costs spreads own count base x 0 limit late window spent after new_least) (left : late ≡ false) where
+    module _ (window spent : ℕ) (after : List ℕ) (new_least : ℕ)
+        (followed : FollowedBy periods costs spreads own count base x 0 limit false window spent after new_least) where
       found : IsSmallest (base_at subject q) (loads periods costs spreads own count) window × (window ≤ limit_at subject q)
-      found = solved_found subject q x window spent (rw (t.base_is, t.limit_is) at (rw left at followed.solved))
+      found = solved_found subject q x window spent (rw (t.base_is, t.limit_is) at followed.solved)
 
       small : IsSmallest base (loads periods costs spreads own count) window
       small = subst (λ (b : ℕ). IsSmallest b (loads periods costs spreads own count) window) (sym t.base_is) found.0
@@ -202,6 +202,13 @@ module _ (periods costs spreads : List ℕ) (own count blocked cost period deadl
       module _ (new_largest : ℕ) (raised : new_largest ≡ max largest (window - passed)) where
         largest_now : new_largest ≡ largest_to (response_at subject) (q + 1)
         largest_now = omega (arith, raised, t.largest_is, response_found, largest_more (response_at subject) q)
+
+        -- no R(q) up to here is past the deadline
+        pub new_high : new_largest ≤ 1000000
+        new_high = omega (arith, raised, t.largest_high, window_fits, t.limit_is, t.passed_is, t.numbers.deadline_high)
+
+        pub new_low : 1 ≤ new_largest
+        new_low = omega (arith, raised, window_low)
 
         -- "stop at the first R(q) ≤ T"
         pub turn_stops : q < 64 → window - passed ≤ period → LongestBy subject new_largest (q + 1)
@@ -233,10 +240,11 @@ module _ (periods costs spreads : List ℕ) (own count blocked cost period deadl
               limit_high = omega (arith, limit_raised, t.limit_high, t.numbers.period_high);
               base_high = omega (arith, base_raised, t.base_high, t.numbers.cost_high);
               largest_is = largest_now;
+              largest_high = new_high;
               above = omega (arith, passed_raised, x_raised);
               x_high = omega (arith, x_raised, window_fits, t.limit_high, t.numbers.cost_high);
               not_above = rw (base_raised, x_raised) (raised_not_above base (loads periods costs spreads own count) cost window base_low small);
-              right = rw (base_raised, x_raised) (right_raised periods costs spreads own count base cost window after new_least (followed.held left));
+              right = rw (base_raised, x_raised) (right_raised periods costs spreads own count base cost window after new_least (followed.held refl));
             }
 
     -- no q is left

@@ -1,2 +1,3 @@
 pub mod Overlaps
 pub mod Slices
+pub mod Answers

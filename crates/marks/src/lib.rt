@@ -6,12 +6,12 @@ ghost use Rattle.std.specs.Prelude.{◌≡◌, ◌+◌, ◌-◌, ◌*◌, ◌≤
 ghost use Rattle.model.specs.Lists.{filled, word_of};
 ghost use Rattle.marks.specs.Marks.{raise, never, first_mark, first_mark_at, first_mark_for, least_from, begun_past, moved_mark, Markable, NextBelow, Passable, Passed, Advanced};
 
-use equation::div_up;
+use equation::{Loads, div_up};
 use model::Ticks;
 
 // A count of ticks, raised by the greatest spread. So no mark is below 0, though a load whose spread is longer than its period begins
 // more than one period in every w.
-#[derive(Clone, Copy)]
+#[derive(Clone, Copy, Debug, PartialEq, Eq)]
 pub struct Mark(pub u32);
 
 const RAISE: u32 = 1000000;
@@ -20,7 +20,7 @@ const RAISE: u32 = 1000000;
 const NEVER: u32 = 4294967295;
 
 // The running sum of what is asked for, and a mark that no load's mark is below.
-#[derive(Clone, Copy)]
+#[derive(Clone, Copy, Debug, PartialEq, Eq)]
 pub struct Tally {
     pub sum: u64,
     pub least: Mark,
@@ -31,12 +31,6 @@ pub fn raised(w: Ticks) -> Mark
     ensures { result.0 ≡ w.0 + raise }
 {
     Mark(w.0 + RAISE)
-}
-
-fn smaller(a: Mark, b: Mark) -> Mark
-    ensures { result.0 ≡ min a.0 b.0 }
-{
-    if b.0 < a.0 { b } else { a }
 }
 
 // The mark of a load that has begun one period.
@@ -54,7 +48,8 @@ pub fn least_first(periods: &[u32], spreads: &[u32], n: usize) -> Mark
 {
     let mut least = Mark(NEVER);
     for k in 0..n {
-        least = smaller(least, first_mark(Ticks(periods[k]), Ticks(spreads[k])));
+        let mark = first_mark(Ticks(periods[k]), Ticks(spreads[k]));
+        least = Mark(least.0.min(mark.0));
     }
     least
 }
@@ -64,27 +59,23 @@ pub fn least_first(periods: &[u32], spreads: &[u32], n: usize) -> Mark
 pub fn look_ahead(least: Mark) -> Ticks
     ensures { result.0 ≡ least.0 - raise }
 {
-    if least.0 <= RAISE {
-        return Ticks(0);
-    }
-    Ticks(least.0 - RAISE)
+    Ticks(least.0.saturating_sub(RAISE))
 }
 
-// Sets the marks of the first `count` places to their first ones, but for place `own`, whose mark is never passed. Behind them stands a 0,
+// Sets the marks of the places of the loads to their first ones, but for the own place, whose mark is never passed. Behind them stands a 0,
 // which ends every search.
-pub fn set_first(periods: &[u32], spreads: &[u32], own: usize, count: usize, marks: &mut [u32])
-    requires { Markable periods.now spreads.now count × (count < length marks.old) }
-    ensures { marks.new ≡ set (filled (first_mark_for periods.now spreads.now own) count marks.old) count 0 }
+pub fn set_first(loads: Loads, marks: &mut [u32])
+    requires { Markable loads.periods.now loads.spreads.now loads.count × (loads.count < length marks.old) }
+    ensures { marks.new ≡ set (filled (first_mark_for loads.entry.periods.now loads.entry.spreads.now loads.entry.own) loads.entry.count marks.old) loads.entry.count 0 }
 {
-    for k in 0..count {
-        let mark = first_mark(Ticks(periods[k]), Ticks(spreads[k]));
+    for k in 0..loads.count {
+        let mark = first_mark(Ticks(loads.periods[k]), Ticks(loads.spreads[k]));
         marks[k] = mark.0;
     }
-    marks[count] = 0;
-    if count <= own {
-        return;
+    marks[loads.count] = 0;
+    if loads.own < loads.count {
+        marks[loads.own] = NEVER;
     }
-    marks[own] = NEVER;
 }
 
 // The first place from `from` on whose mark is below `least`. There is one, up to `end`.
@@ -118,59 +109,48 @@ fn moved(period: Ticks, cost: Ticks, mark: Mark, w: Mark) -> Step
     if over.0 <= period.0 {
         return Step {
             mark: Mark(mark.0 + period.0),
-            more: cost.0 as u64,
+            more: u64::from(cost.0),
         };
     }
     let begun = div_up(over, period);
     Step {
         mark: Mark(mark.0 + begun * period.0),
-        more: (cost.0 as u64) * (begun as u64),
+        more: u64::from(cost.0) * u64::from(begun),
     }
 }
 
-// Moves every mark of the first `count` places that w has passed. One comparison passes over a load: a mark that is not below the least
+// Moves every mark that w has passed of the places of the loads. One comparison passes over a load: a mark that is not below the least
 // so far, which w has not passed, is not passed either. The least is looked for up to `ahead` ticks from w on: marks further on are passed
 // over in whatever order they stand.
-fn pass(
-    periods: &[u32],
-    costs: &[u32],
-    count: usize,
-    w: Mark,
-    ahead: Ticks,
-    before: u64,
-    marks: &mut [u32],
-) -> Tally
-    requires { Passable periods.now costs.now marks.old count w.0 ahead.0 before }
-    ensures { Passed periods.now costs.now marks.old count w.0 ahead.0 before marks.new result.sum result.least.0 }
+fn pass(loads: Loads, w: Mark, ahead: Ticks, before: u64, marks: &mut [u32]) -> Tally
+    requires { Passable loads.periods.now loads.costs.now marks.old loads.count w.0 ahead.0 before }
+    ensures { Passed loads.entry.periods.now loads.entry.costs.now marks.old loads.entry.count w.0 ahead.0 before marks.new result.sum result.least.0 }
 {
     let mut sum = before;
     let mut least = Mark(w.0 + ahead.0);
-    let mut k = next_below(marks, count, least, 0);
-    while k < count {
-        let next = moved(Ticks(periods[k]), Ticks(costs[k]), Mark(marks[k]), w);
+    let mut k = next_below(marks, loads.count, least, 0);
+    while k < loads.count {
+        let next = moved(
+            Ticks(loads.periods[k]),
+            Ticks(loads.costs[k]),
+            Mark(marks[k]),
+            w,
+        );
         sum += next.more;
         marks[k] = next.mark.0;
-        least = smaller(least, next.mark);
-        k = next_below(marks, count, least, k + 1);
+        least = Mark(least.0.min(next.mark.0));
+        k = next_below(marks, loads.count, least, k + 1);
     }
     Tally { sum, least }
 }
 
 // The tally and the marks for w. Where w is not above the least mark, they stay.
-pub fn advance(
-    periods: &[u32],
-    costs: &[u32],
-    count: usize,
-    w: Mark,
-    ahead: Ticks,
-    before: Tally,
-    marks: &mut [u32],
-) -> Tally
-    requires { Passable periods.now costs.now marks.old count w.0 ahead.0 before.sum }
-    ensures { Advanced periods.now costs.now marks.old count w.0 ahead.0 before.sum before.least.0 marks.new result.sum result.least.0 }
+pub fn advance(loads: Loads, w: Mark, ahead: Ticks, before: Tally, marks: &mut [u32]) -> Tally
+    requires { Passable loads.periods.now loads.costs.now marks.old loads.count w.0 ahead.0 before.sum }
+    ensures { Advanced loads.entry.periods.now loads.entry.costs.now marks.old loads.entry.count w.0 ahead.0 before.sum before.least.0 marks.new result.sum result.least.0 }
 {
     if w.0 <= before.least.0 {
         return before;
     }
-    pass(periods, costs, count, w, ahead, before.sum, marks)
+    pass(loads, w, ahead, before.sum, marks)
 }

@@ -9,15 +9,18 @@ ghost use Rattle.records.specs.Columns.{record_columns, row_columns, Lent, Table
 ghost use Rattle.reading.specs.Sizes.{Sizes};
 ghost use Rattle.blocking.specs.Sweep.{Zeros};
 ghost use Rattle.marks.specs.Marks.{PeriodsHigh};
-ghost use Rattle.answering.specs.Slices.{decoded, DecodedFits, slice};
+ghost use Rattle.jobs.specs.Answers.{word_of, Told};
+ghost use Rattle.answering.specs.Slices.{DecodedFits, slice};
+ghost use Rattle.answering.specs.Lent.{decoded_from};
 ghost use Rattle.overlaps.specs.Outcome.{is_schedulable, is_calm, said_by, lending, leaving, PastOutcome};
 ghost use Rattle.overlaps.specs.Columns.{AllFound};
 ghost use Rattle.overlaps.specs.Numbers.{code_of, found_place, PackedOutcome};
 
-use answering::{Group, group_of};
-use jobs::longest;
+use answering::{NO_GROUP, Tasks, group_of};
+use equation::Loads;
+use jobs::{Answer, longest};
 use marks::least_first;
-use model::{OPEN, Place, Ticks};
+use model::{Place, Ticks};
 use reading::{
     LARGE_BYTES, LARGE_MARKS, LARGE_ROOM, LARGE_WORDS, SMALL_BYTES, SMALL_MARKS, SMALL_ROOM,
     SMALL_WORDS, any_delay, is_large,
@@ -126,100 +129,67 @@ fn find(
     let n = count(table[TASK_COUNT_AT]);
     find_blocking(table, room, bytes, words, held);
     // of the words: periods, costs, deadlines, spreads, latest delays
-    find_all(
-        bytes,
-        &words[0..room],
-        &words[room..2 * room],
-        &words[2 * room..3 * room],
-        &words[3 * room..4 * room],
-        &words[4 * room..5 * room],
-        n,
+    let tasks = Tasks {
+        priorities: bytes,
+        periods: &words[0..room],
+        costs: &words[room..2 * room],
+        deadlines: &words[2 * room..3 * room],
+        spreads: &words[3 * room..4 * room],
+        latest: &words[4 * room..5 * room],
         held,
-        answers,
-        tried,
-        marks,
-    )
+        n,
+    };
+    find_all(tasks, answers, tried, marks)
 }
 
-// The words of the n tasks, and what is found; `held` has their blocking. Groups and their costs are found along the way, as the first
-// analysis does. The words of `marks` are scratch, one for each task and one more, made once for a table.
-fn find_all(
-    priorities: &[u8],
-    periods: &[u32],
-    costs: &[u32],
-    deadlines: &[u32],
-    spreads: &[u32],
-    latest: &[u32],
-    n: usize,
-    held: &[u32],
-    answers: &mut [u32],
-    tried: &mut [u32],
-    marks: &mut [u32],
-) -> Found
-    requires decoded_fits { DecodedFits (decoded priorities.now periods.now costs.now deadlines.now spreads.now latest.now held.now) n }
-    requires periods_high { PeriodsHigh periods.now n × (n < length marks.old) }
-    requires n_in_bounds { (n ≤ length answers.old) × (n ≤ length tried.old) }
-    ensures { AllFound (decoded priorities.now periods.now costs.now deadlines.now spreads.now latest.now held.now) n result (slice answers.old answers.new) (slice tried.old tried.new) }
+// The words of the tasks, and what is found. Groups and their costs are found along the way, as the first analysis does. The words of `marks`
+// are scratch, one for each task and one more, made once for a table.
+fn find_all(tasks: Tasks, answers: &mut [u32], tried: &mut [u32], marks: &mut [u32]) -> Found
+    requires decoded_fits { DecodedFits (decoded_from tasks) tasks.n }
+    requires periods_high { PeriodsHigh tasks.periods.now tasks.n × (tasks.n < length marks.old) }
+    requires n_in_bounds { (tasks.n ≤ length answers.old) × (tasks.n ≤ length tried.old) }
+    ensures { AllFound (decoded_from tasks.entry) tasks.entry.n result (slice answers.old answers.new) (slice tried.old tried.new) }
 {
-    let mut group = Group {
-        count: 0,
-        all: Ticks(0),
-        end: 0,
-        costs: Ticks(0),
-    };
-    let mut reached = Ticks(0);
+    let least = least_first(tasks.periods, tasks.spreads, tasks.n);
+    let mut group = NO_GROUP;
     let mut found = Found::Schedulable;
-    let least = least_first(periods, spreads, n);
-    for i in 0..n {
-        let cost = Ticks(costs[i]);
-        reached = Ticks(reached.0 + cost.0);
-        group = group_of(priorities, costs, n, group, reached, i);
-        let others = Ticks(group.all.0 - cost.0);
-        let words = longest(
-            periods,
-            costs,
-            spreads,
-            i,
-            group.count,
-            Ticks(held[i]),
+    for i in 0..tasks.n {
+        group = group_of(tasks, group, i);
+        let loads = Loads {
+            periods: tasks.periods,
+            costs: tasks.costs,
+            spreads: tasks.spreads,
+            own: i,
+            count: group.count,
+        };
+        let cost = Ticks(tasks.costs[i]);
+        let outcome = longest(
+            loads,
+            Ticks(tasks.held[i]),
             cost,
-            Ticks(periods[i]),
-            Ticks(deadlines[i]),
-            others,
+            Ticks(tasks.periods[i]),
+            Ticks(tasks.deadlines[i]),
+            Ticks(group.all.0 - cost.0),
             least,
             marks,
         );
-        answers[i] = words.answer;
-        tried[i] = words.tried;
-        found = with_word(found, words.answer, Place(i));
+        answers[i] = u32::from(outcome.answer);
+        tried[i] = outcome.tried;
+        found = with_answer(found, outcome.answer, Place(i));
     }
     found
 }
 
 // What is found with one task more: the first that is late or open stays.
-fn with_word(found: Found, word: u32, at: Place) -> Found
-    ensures { result ≡ pick (is_schedulable found) (said_by word at) found }
+fn with_answer(found: Found, answer: Answer, at: Place) -> Found
+    requires { Told answer }
+    ensures { result ≡ pick (is_schedulable found) (said_by (word_of answer) at) found }
 {
-    match found {
-        Found::Refused(refusal) => Found::Refused(refusal),
-        Found::Delayed => Found::Delayed,
-        Found::Schedulable => said(word, at),
-        Found::Late(first) => Found::Late(first),
-        Found::Open(first) => Found::Open(first),
+    match (found, answer) {
+        (Found::Schedulable, Answer::Late) => Found::Late(at),
+        (Found::Schedulable, Answer::Open) => Found::Open(at),
+        (before, _) => before,
     }
-}
-
-// What a task's word says of it.
-fn said(word: u32, at: Place) -> Found
-    ensures { result ≡ said_by word at }
-{
-    if word == 0 {
-        return Found::Late(at);
-    }
-    if word == OPEN {
-        return Found::Open(at);
-    }
-    Found::Schedulable
 }
 
 impl Told for Found {

@@ -16,7 +16,7 @@ ghost use Rattle.response.specs.Packing.{PackedOutcome};
 ghost use Rattle.equation.specs.declared.Start.TheVariants.{EveryCost};
 
 pub use answering::Verdict;
-use answering::answer_all;
+use answering::{Tasks, answer_all};
 pub use equation::Start;
 use reading::{
     LARGE_BYTES, LARGE_MARKS, LARGE_ROOM, LARGE_WORDS, ROW_ROOM, SMALL_BYTES, SMALL_MARKS,
@@ -196,20 +196,17 @@ fn answer(
     let n = count(table[TASK_COUNT_AT]);
     find_blocking(table, room, bytes, words, held);
     // of the words: periods, costs, deadlines, spreads, latest delays
-    answer_all(
-        start,
-        bytes,
-        &words[0..room],
-        &words[room..2 * room],
-        &words[2 * room..3 * room],
-        &words[3 * room..4 * room],
-        &words[4 * room..5 * room],
-        n,
+    let tasks = Tasks {
+        priorities: bytes,
+        periods: &words[0..room],
+        costs: &words[room..2 * room],
+        deadlines: &words[2 * room..3 * room],
+        spreads: &words[3 * room..4 * room],
+        latest: &words[4 * room..5 * room],
         held,
-        answers,
-        rounds,
-        marks,
-    )
+        n,
+    };
+    answer_all(start, tasks, answers, rounds, marks)
 }
 
 // The analysis from either start, its verdict in one number, for C.

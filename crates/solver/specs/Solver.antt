@@ -1,14 +1,24 @@
 -- What the solver asks of its numbers, and what it gives.
 -- Assumes nothing.
-use Rattle.std.specs.Prelude.{ℕ, ◌+◌, ◌≤◌, ◌≡◌, Bool, false, List, eqb}
+use Rattle.std.specs.Prelude.{ℕ, ◌+◌, ◌≤◌, ◌≡◌, Bool, true, false, List, eqb, Option, Some, None}
 use Rattle.model.specs.Choice.{pick}
 use Rattle.model.specs.Tables.{Load}
+use Rattle.model.specs.declared.Ticks.{Ticks}
 use Rattle.equation.specs.Answer.{answer}
 use Rattle.equation.specs.Sequence as sequence
 use Rattle.equation.specs.Laws.{NotAbove}
 use Rattle.equation.specs.Slices.{loads, LoadsFit}
 use Rattle.marks.specs.Marks.{PeriodsHigh}
 use Rattle.marks.specs.Invariant.{Right}
+
+-- late, where there are no ticks; and those that there are, 0 where there are none
+abbrev pub is_late : Option Ticks → Bool
+is_late None = true
+is_late (Some ticks) = false
+
+abbrev pub ticks_of : Option Ticks → ℕ
+ticks_of None = 0
+ticks_of (Some ticks) = ticks.0
 
 -- A start that is above no solution, and numbers within limits that those of a table keep (SPECIFICATION 2.5), the deadline also where 63 periods
 -- are added to it (SPECIFICATION 13.8; document 02, L8).

@@ -3,27 +3,26 @@
 
 ghost use Rattle.std.specs.Prelude.{◌+◌, ◌≤◌, ◌<◌, ◌≡◌, eqb, leb, length};
 ghost use Rattle.model.specs.Choice.{both};
-ghost use Rattle.equation.specs.Slices.{loads, LoadsFit};
+ghost use Rattle.equation.specs.Lent.{loads_from, Fit};
 ghost use Rattle.marks.specs.Marks.{raise, Begun};
-ghost use Rattle.solver.specs.Solver.{Solvable, SolvedBy, Followable, FollowedBy};
+ghost use Rattle.solver.specs.Solver.{is_late, ticks_of, Solvable, SolvedBy, Followable, FollowedBy};
 
+use equation::Loads;
 use marks::{Mark, Tally};
 use model::Ticks;
 
-// Whether a task is late, its longest response time, 0 where it is, and the rounds spent on it.
-#[derive(Clone, Copy)]
+// A task's longest response time, none where it is late, and the rounds spent on it.
+#[derive(Clone, Copy, Debug, PartialEq, Eq)]
 pub struct Solved {
-    pub late: bool,
-    pub response: Ticks,
+    pub response: Option<Ticks>,
     pub rounds: u32,
 }
 
-// What following the sequence comes to: whether it is late, and else its last term, which is the smallest solution; the rounds; and a mark that
+// What following the sequence comes to: its last term, which is the smallest solution, and none where it is late; the rounds; and a mark that
 // none of the loads' marks is below.
-#[derive(Clone, Copy)]
+#[derive(Clone, Copy, Debug, PartialEq, Eq)]
 pub struct Followed {
-    pub late: bool,
-    pub window: Ticks,
+    pub window: Option<Ticks>,
     pub rounds: u32,
     pub least: Mark,
 }
@@ -32,11 +31,7 @@ pub struct Followed {
 // `others` is one cost of every load, `least` a mark that none of their first marks is below: until x has passed it, each load asks for one
 // cost. Then the loads' marks stand in `marks`, which are scratch words, and the sequence is followed.
 pub fn solve(
-    periods: &[u32],
-    costs: &[u32],
-    spreads: &[u32],
-    own: usize,
-    count: usize,
+    loads: Loads,
     base: Ticks,
     others: Ticks,
     start: Ticks,
@@ -45,55 +40,34 @@ pub fn solve(
     deadline: Ticks,
     marks: &mut [u32],
 ) -> Solved
-    requires loads_fit { LoadsFit periods.now costs.now spreads.now count × (count < length marks.old) }
-    requires solvable { Solvable base.0 (loads periods.now costs.now spreads.now own count) start.0 late.0 deadline.0 }
-    requires begun { Begun periods.now spreads.now count (loads periods.now costs.now spreads.now own count) base.0 others.0 start.0 least.0 }
-    ensures { SolvedBy base.0 (loads periods.now costs.now spreads.now own count) start.0 late.0 deadline.0 result.late result.response.0 result.rounds }
+    requires loads_fit { Fit loads loads.count × (loads.count < length marks.old) }
+    requires solvable { Solvable base.0 (loads_from loads) start.0 late.0 deadline.0 }
+    requires begun { Begun loads.periods.now loads.spreads.now loads.count (loads_from loads) base.0 others.0 start.0 least.0 }
+    ensures { SolvedBy base.0 (loads_from loads.entry) start.0 late.0 deadline.0 (is_late result.response) (ticks_of result.response) result.rounds }
 {
     let delay = late.0;
     if deadline.0 < start.0 + delay {
         return Solved {
-            late: true,
-            response: Ticks(0),
+            response: None,
             rounds: 1,
         };
     }
     let once = base.0 + others.0;
     if ends_at_once(start, Ticks(once), least) {
         return Solved {
-            late: false,
-            response: Ticks(once + delay),
+            response: Some(Ticks(once + delay)),
             rounds: 1,
         };
     }
-    marks::set_first(periods, spreads, own, count, marks);
-    let followed = follow(
-        periods,
-        costs,
-        spreads,
-        own,
-        count,
-        base,
-        start,
-        late,
-        deadline,
-        marks::look_ahead(least),
-        Tally {
-            sum: once as u64,
-            least,
-        },
-        marks,
-    );
-    if followed.late {
-        return Solved {
-            late: true,
-            response: Ticks(0),
-            rounds: followed.rounds,
-        };
-    }
+    marks::set_first(loads, marks);
+    let before = Tally {
+        sum: u64::from(once),
+        least,
+    };
+    let ahead = marks::look_ahead(least);
+    let followed = follow(loads, base, start, late, deadline, ahead, before, marks);
     Solved {
-        late: false,
-        response: Ticks(followed.window.0 + delay),
+        response: followed.window.map(|window| Ticks(window.0 + delay)),
         rounds: followed.rounds,
     }
 }
@@ -102,11 +76,7 @@ pub fn solve(
 // start, or for a tick before it. Each round moves the marks that x has passed; where it has passed none, the next term is the sum that is
 // there.
 pub fn follow(
-    periods: &[u32],
-    costs: &[u32],
-    spreads: &[u32],
-    own: usize,
-    count: usize,
+    loads: Loads,
     base: Ticks,
     start: Ticks,
     late: Ticks,
@@ -115,41 +85,27 @@ pub fn follow(
     before: Tally,
     marks: &mut [u32],
 ) -> Followed
-    requires { Followable periods.now costs.now spreads.now own count base.0 start.0 late.0 deadline.0 ahead.0 marks.old before.sum before.least.0 }
-    ensures { FollowedBy periods.now costs.now spreads.now own count base.0 start.0 late.0 deadline.0 result.late result.window.0 result.rounds marks.new result.least.0 }
+    requires { Followable loads.periods.now loads.costs.now loads.spreads.now loads.own loads.count base.0 start.0 late.0 deadline.0 ahead.0 marks.old before.sum before.least.0 }
+    ensures { FollowedBy loads.entry.periods.now loads.entry.costs.now loads.entry.spreads.now loads.entry.own loads.entry.count base.0 start.0 late.0 deadline.0 (is_late result.window) (ticks_of result.window) result.rounds marks.new result.least.0 }
 {
-    let delay = late.0;
-    let due = deadline.0;
-    // the base as a number of its own: the loop's proof speaks of it, and the loop itself does not
-    let alone = base.0;
-    let limit = (due - delay) as u64;
+    let limit = u64::from(deadline.0 - late.0);
     let mut x = start.0;
     let mut rounds: u32 = 1;
     let mut tally = before;
     loop {
-        tally = marks::advance(
-            periods,
-            costs,
-            count,
-            marks::raised(Ticks(x)),
-            ahead,
-            tally,
-            marks,
-        );
+        tally = marks::advance(loads, marks::raised(Ticks(x)), ahead, tally, marks);
         let next = tally.sum;
         let least = tally.least;
         if limit < next {
             return Followed {
-                late: true,
-                window: Ticks(0),
+                window: None,
                 rounds,
                 least,
             };
         }
-        if next == x as u64 {
+        if next == u64::from(x) {
             return Followed {
-                late: false,
-                window: Ticks(x),
+                window: Some(Ticks(x)),
                 rounds,
                 least,
             };
@@ -164,8 +120,5 @@ pub fn ends_at_once(start: Ticks, once: Ticks, least: Mark) -> bool
     requires { start.0 ≤ 1000000000 }
     ensures { result ≡ both (eqb start.0 once.0) (leb (start.0 + raise) least.0) }
 {
-    if start.0 != once.0 {
-        return false;
-    }
-    marks::raised(start).0 <= least.0
+    start == once && marks::raised(start).0 <= least.0
 }

@@ -5,5 +5,5 @@ use Rattle.jobs.proofs.search.Given as goal
 
 abbrev pub invariant-loop-q : goal.invariant-loop-q
 invariant-loop-q l =
-    Trying l.periods l.costs l.spreads l.own l.count l.blocked l.each l.between l.due l.ahead.0 l.q l.base l.x l.passed l.limit l.largest.0 l.marks l.least.0
+    Trying l.fn.loads.periods.now l.fn.loads.costs.now l.fn.loads.spreads.now l.fn.loads.own l.fn.loads.count l.fn.held.0 l.fn.cost.0 l.fn.period.0 l.fn.deadline.0 l.fn.ahead.0 l.q l.base l.x l.passed l.limit l.largest l.marks l.least.0
     × (length l.marks ≡ length l.initial.marks)

@@ -9,4 +9,4 @@ pub loop-k-init : goal.loop-k-init
 loop-k-init c = (omega arith, sym (least_none _ _))
 
 pub loop-k-preserved : goal.loop-k-preserved
-loop-k-preserved c = (omega (arith, c.loop-k-test.true), least_next _ _ _ _ _ _ c.loop-k.invariant.1 c.first_mark.ensures c.smaller-least.ensures)
+loop-k-preserved c = (omega (arith, c.loop-k-test.true), least_next _ _ _ _ _ _ c.loop-k.invariant.1 c.first_mark-mark.ensures c.min.ensures)

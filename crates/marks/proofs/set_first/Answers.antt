@@ -9,8 +9,8 @@ loop-k-init c = setting_none _ _ _ _ _ c.requires.1
 pub loop-k-preserved : goal.loop-k-preserved
 loop-k-preserved c = setting_more _ _ _ _ _ _ _ _ c.loop-k.invariant c.loop-k-test.true c.first_mark-mark.ensures
 
-pub returns-then-count-own : goal.returns-then-count-own
-returns-then-count-own c = set_others _ _ _ _ _ _ _ c.loop-k.invariant c.loop-k-test.false c.if-count-own.true
+pub returns-then-loads : goal.returns-then-loads
+returns-then-loads c = set_own _ _ _ _ _ _ _ c.loop-k.invariant c.loop-k-test.false c.if-loads.true
 
-pub returns : goal.returns
-returns c = set_own _ _ _ _ _ _ _ c.loop-k.invariant c.loop-k-test.false c.if-count-own.false
+pub returns-else-loads : goal.returns-else-loads
+returns-else-loads c = set_others _ _ _ _ _ _ _ c.loop-k.invariant c.loop-k-test.false c.if-loads.false

@@ -1,7 +1,7 @@
--- `equation::with_more` meets its contract: after each turn the sum is that of the places so far, and it fits 64 bits.
+-- `Loads::with_more` meets its contract: after each turn the sum is that of the places so far, and it fits 64 bits.
 -- Assumes nothing.
 use Rattle.equation.proofs.SliceLaws.{sum_high, summing_more, summed_all}
-use Rattle.equation.proofs.with_more.Goals as goal
+use Rattle.equation.proofs.Loads.with_more.Goals as goal
 
 pub with_load-all-requires : goal.with_load-all-requires
 with_load-all-requires c = (c.loop-k.invariant.fit.each c.loop-k.k c.loop-k-test.true, c.loop-k.invariant.low, c.loop-k.invariant.high, sum_high _ _ _ _ _ _ _ _ _ 0 c.loop-k.invariant c.loop-k-test.true)
