@@ -1,16 +1,19 @@
 -- Which outcome each check of the play leads to, and what it asks of the columns.
 -- Assumes nothing.
-use Rattle.std.specs.Prelude.{Ok, Err}
-use Prim.Native.Nat.{ℕ, ◌+◌, ◌-◌, ◌≤◌, ◌<◌}
+use Prim.Native.Nat.{ℕ, zero, suc, ◌+◌, ◌-◌, ◌≤◌, ◌<◌}
 use native.Mathlib.Omega.{arith}
 use mathlib.Core.Path.{◌≡◌, refl, sym, ◌∙◌, ap, subst}
-use mathlib.Core.Bool.{false, true}
+use mathlib.Core.Bool.{Bool, false, true}
 use mathlib.Core.List.{List}
 use lib.Dec.{eqb, ltb}
-use lib.ListN.{length}
+use lib.ListN.{length, take}
 use native.Mathlib.Nat.{add-zero}
 use native.Mathlib.Numerals.{add-one}
 use borrow.Author.Tests.{eq-eqb, ne_eqb, lt-leb, lt-ltb, ltb-true, ltb-false}
+use Rattle.std.specs.Prelude.{Some, None, ◌==◌, Ok, Err}
+use Rattle.std.specs.List.{position}
+use Rattle.std.proofs.lemmas.Bool.Decides.{nat_tests}
+use Rattle.machine.proofs.Positions.{first_passes, none_passes}
 use Rattle.model.specs.Lists.{filled, largest_to, word_of}
 use Rattle.model.specs.Search.{any}
 use Rattle.model.proofs.Any.{any_none, any_some}
@@ -210,20 +213,41 @@ module _ (bytes periods costs deadlines latest : List ℕ) (held : NumbersHeld b
 
 -- the search for the first answer that is 0
 module _ (answers : ℕ → ℕ) where
-  pub result_none : result_of answers 0 ≡ verdict.Schedulable
+  result_none : result_of answers 0 ≡ verdict.Schedulable
   result_none = first_none is_schedulable verdict.Schedulable refl (late_at answers)
 
-  pub result_on : (i : ℕ) → result_of answers i ≡ verdict.Schedulable → ¬ (answers i ≡ 0) → result_of answers (i + 1) ≡ verdict.Schedulable
+  result_on : (i : ℕ) → result_of answers i ≡ verdict.Schedulable → ¬ (answers i ≡ 0) → result_of answers (i + 1) ≡ verdict.Schedulable
   result_on i e some =
       first_on is_schedulable verdict.Schedulable refl (late_at answers) i e (rw (ne_eqb (answers i) 0 some))
 
-  pub result_late : (i n : ℕ) → result_of answers i ≡ verdict.Schedulable → answers i ≡ 0 → i < n → verdict.Late (at i) ≡ result_of answers n
-  result_late i n e none h =
-      let late : late_at answers i ≡ verdict.Late (at i) = rw (eq-eqb (answers i) 0 none) in
-      sym (first_stop is_schedulable verdict.Schedulable refl (late_at answers) i e (rw late) n h ∙ late)
+  result_clear : (i : ℕ) → ((k : ℕ) → k < i → ¬ (answers k ≡ 0)) → result_of answers i ≡ verdict.Schedulable
+  result_clear zero some = result_none
+  result_clear (suc i) some =
+      ap (result_of answers) (sym (add-one i)) ∙ result_on i (result_clear i (λ k h. some k (omega arith))) (some i (omega arith))
 
-  pub result_all : (i n : ℕ) → result_of answers i ≡ verdict.Schedulable → i ≤ n → n ≤ i → verdict.Schedulable ≡ result_of answers n
-  result_all i n e low high = sym e ∙ ap (result_of answers) (omega arith)
+  result_late : (i n : ℕ) → ((k : ℕ) → k < i → ¬ (answers k ≡ 0)) → answers i ≡ 0 → i < n → verdict.Late (at i) ≡ result_of answers n
+  result_late i n some none h =
+      let late : late_at answers i ≡ verdict.Late (at i) = rw (eq-eqb (answers i) 0 none) in
+      sym (first_stop is_schedulable verdict.Schedulable refl (late_at answers) i (result_clear i some) (rw late) n h ∙ late)
+
+module _ (answers : List ℕ) (n : ℕ) (room : n ≤ length answers) where
+  abbrev is_late : ℕ → Bool
+  is_late answer = answer == 0
+
+  late_is : (answer : ℕ) → is_late answer ≡ true → answer ≡ 0
+  late_is answer h = grind (arith, nat_tests)
+
+  early_is : (answer : ℕ) → is_late answer ≡ false → ¬ (answer ≡ 0)
+  early_is answer h = grind (arith, nat_tests)
+
+  pub late_found : (i : ℕ) → position is_late (take n answers) ≡ Some i → verdict.Late (at i) ≡ result_of (word_of answers) n
+  late_found i found =
+      let first = first_passes is_late answers n room i found in
+      result_late (word_of answers) i n (λ k h. early_is (word_of answers k) (first.2 k h)) (late_is (word_of answers i) first.1) first.0
+
+  pub none_late : position is_late (take n answers) ≡ None → verdict.Schedulable ≡ result_of (word_of answers) n
+  none_late missed =
+      sym (result_clear (word_of answers) n (λ k h. early_is (word_of answers k) (none_passes is_late answers n room missed k h)))
 
 -- the search for a tie
 module _ (priority : ℕ → ℕ) where

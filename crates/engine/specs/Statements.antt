@@ -2,9 +2,10 @@
 -- answers and leaves (`Played`, its contract). The proofs are in proofs/Claims.antt, Versions.antt and
 -- FirstLaws.antt.
 -- Assumes nothing.
-use Rattle.std.specs.Prelude.{ℕ, ◌≤◌, ◌<◌, ◌≡◌, ◌⊎◌, List, length}
+use Rattle.std.specs.Prelude.{ℕ, ◌≤◌, ◌<◌, ◌≡◌, ◌⊎◌, List, Option, length}
 use Rattle.model.specs.Lists.{filled}
 use Rattle.model.specs.Tables.{Falling}
+use Rattle.model.specs.declared.Place.{Place}
 use Rattle.tables.specs.declared.Refusal.{Refusal}
 use Rattle.tables.specs.declared.Refusal.TheVariants.{NotPlayable}
 use Rattle.tables.specs.Layout.{version_of, task_count, row_count, tasks_of, table_of, priority_in, earliest_in, latest_in}
@@ -73,7 +74,7 @@ TableEveryTick =
 abbrev pub CodeEveryTick : Type 0
 CodeEveryTick =
     (bytes periods costs deadlines latest : List ℕ) → NumbersHeld bytes periods costs deadlines latest → Falling (tasks_of bytes) →
-    (limit : ℕ) (before now : Kept) (t place next : ℕ) → StartHeld (task_count bytes) before →
+    (limit : ℕ) (before now : Kept) (t : ℕ) (place : Option Place) (next : ℕ) → StartHeld (task_count bytes) before →
     PlayLeaves periods costs (task_count bytes) limit before now t place next →
     (ticks : ℕ) (s : Schedule) → LegalSchedule (tasks_of bytes) ticks (synchronous (tasks_of bytes) ticks) s → t ≤ ticks →
     HeldAsInRun (tasks_of bytes) ticks s t now.left now.ready

@@ -1,7 +1,7 @@
 // Plays a table tick by tick (SPECIFICATION 9; document 02, L1, L6 and L9): the answers and the verdict of the analysis, found another way.
 #![tactic(auto)]
 
-ghost use Rattle.std.specs.Prelude.{◌≡◌, ◌+◌, ◌-◌, ◌*◌, ◌≤◌, length, Ok};
+ghost use Rattle.std.specs.Prelude.{◌≡◌, ◌==◌, ◌+◌, ◌-◌, ◌*◌, ◌≤◌, length, position, Ok};
 ghost use Rattle.model.specs.Lists.{word_of};
 ghost use Rattle.model.specs.Search.{any};
 ghost use Rattle.tables.specs.Layout.{task_count, priority_in};
@@ -14,6 +14,7 @@ ghost use Rattle.answering.specs.Results.{result_of};
 ghost use Rattle.engine.specs.Held.{NumbersHeld};
 ghost use Rattle.engine.specs.Outcome.{tied_at, Played};
 
+use machine::tasks::Tasks;
 use model::Place;
 use reading::{
     LARGE_BYTES, LARGE_ROOM, LARGE_WORDS, SMALL_BYTES, SMALL_ROOM, SMALL_WORDS, any_delay, is_large,
@@ -110,13 +111,12 @@ fn play_columns(
     let periods = &words[0..room];
     let costs = &words[room..2 * room];
     let deadlines = &words[2 * room..3 * room];
+    let tasks = Tasks::new(periods, costs, deadlines, n);
     let limit = largest(deadlines, n);
     // a bit for each of 256 places, and the earliest next release of each 64 of them
     let mut ready = [0u64; 4];
     let mut nexts = [0u32; 4];
-    play_all(
-        periods, costs, deadlines, n, limit, left, due, &mut ready, &mut nexts, answers,
-    );
+    play_all(tasks, limit, left, due, &mut ready, &mut nexts, answers);
     result(answers, n)
 }
 
@@ -143,15 +143,20 @@ fn any_tie(table: &[u8], n: usize) -> bool
     false
 }
 
+// The first place whose answer is 0.
+fn first_late(answers: &[u32]) -> Option<usize>
+    ensures { result ≡ position (λ answer. answer == 0) answers.now }
+{
+    answers.iter().position(|answer| *answer == 0)
+}
+
 // Late at the first place whose answer is 0.
 fn result(answers: &[u32], n: usize) -> Verdict
     requires { n ≤ length answers.now }
     ensures { result ≡ result_of (word_of answers.now) n }
 {
-    for i in 0..n {
-        if answers[i] == 0 {
-            return Verdict::Late(Place(i));
-        }
+    match first_late(&answers[..n]) {
+        Some(i) => Verdict::Late(Place(i)),
+        None => Verdict::Schedulable,
     }
-    Verdict::Schedulable
 }

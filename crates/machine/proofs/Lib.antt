@@ -1,4 +1,5 @@
 pub mod BitLaws
+pub mod Positions
 pub mod WordLaws
 pub mod MachineLaws
 pub mod SameLaws

@@ -11,13 +11,15 @@ use mathlib.Core.Logic.{inl, inr}
 use lib.Dec.{eqb}
 use lib.ListN.{length, set}
 use borrow.Author.Tests.{ne_eqb}
+use Rattle.std.specs.Prelude.{Option}
+use Rattle.model.specs.declared.Place.{Place}
 use Rattle.model.specs.Lists.{filled, word_of}
 use Rattle.model.specs.Choice.{on}
 use Rattle.model.proofs.Filling.{Filling, filling_none, filling_at, filling_old, filling_set, filled_word, is_filled}
 use Rattle.model.proofs.Lists.{get_d_filled, get_d_filled_past, length_filled}
 use Rattle.model.proofs.Tests.{eqb?}
 use Rattle.machine.specs.Machine.{left_with, due_with, raised, raised_by, in_word, next_place, earliest, behind, next_in}
-use Rattle.machine.specs.Slices.{TasksHeld, WorkHeld, WordsHeld, StateHeld, NextKnown, Kept, Leaves, NoneDue, SomeReleased, WordReleased, released_in, words_for, end_of}
+use Rattle.machine.specs.Slices.{TasksHeld, WorkHeld, WordsHeld, StateHeld, NextKnown, Kept, Leaves, NoneDue, SomeReleased, WordReleased, released_in, words_for, end_of, place_or_none}
 use Rattle.machine.proofs.WordLaws.{next_same}
 use Rattle.machine.proofs.SameLaws.{raised_same}
 use Rattle.machine.proofs.StepLaws.{stays}
@@ -422,7 +424,7 @@ module _ (periods costs : List ℕ) (n t : ℕ) (before : Kept) where
           }
 
     -- Where nothing is due the slices hold what a release would leave, and the next task stays.
-    module _ (place next : ℕ) (known : NextKnown n before place next) (early : t < next) where
+    module _ (place : Option Place) (next : ℕ) (known : NextKnown n before place next) (early : t < next) where
       later : NoneDue n t before.due
       later p h e = omega (arith, e, known.next_is, earliest_low (word_of before.due) n p h)
 
@@ -449,8 +451,8 @@ module _ (periods costs : List ℕ) (n t : ℕ) (before : Kept) where
             next_is = known.next_is ∙ earliest_same (word_of before.due) due_then n dues_stay;
           }
 
-      pub place_stays : place ≡ next_place (released_in periods costs n t before).ready
-      place_stays = known.place_is ∙ next_same (word_of before.ready) word_then words_stay
+      pub place_stays : place ≡ place_or_none (next_place (released_in periods costs n t before).ready)
+      place_stays = known.place_is ∙ ap place_or_none (next_same (word_of before.ready) word_then words_stay)
 
     -- The words that the releases leave, one by one: those of no task have no bit.
     module _ (now : Kept) (next : ℕ) (leaves : Leaves n before (released_in periods costs n t before) now next) where
@@ -474,5 +476,6 @@ module _ (periods costs : List ℕ) (n t : ℕ) (before : Kept) where
                 ∙ held.words.rest w h;
           }
 
-      pub place_left : (place : ℕ) → place ≡ next_place (word_of now.ready) → place ≡ next_place (released_in periods costs n t before).ready
-      place_left place e = e ∙ next_same (word_of now.ready) word_then word_left
+      pub place_left : (place : Option Place) → place ≡ place_or_none (next_place (word_of now.ready)) →
+          place ≡ place_or_none (next_place (released_in periods costs n t before).ready)
+      place_left place e = e ∙ ap place_or_none (next_same (word_of now.ready) word_then word_left)

@@ -1,22 +1,27 @@
 -- What the small functions of a tick leave.
 -- Assumes nothing.
-use Prim.Native.Nat.{ℕ, ◌+◌, ◌-◌, ◌/◌, ◌≤◌, ◌<◌, max}
+use Prim.Native.Nat.{ℕ, zero, suc, ◌+◌, ◌-◌, ◌/◌, ◌≤◌, ◌<◌, max}
 use native.Mathlib.Decide.{ℕ_discrete}
 use native.Mathlib.Omega.{arith}
 use native.Mathlib.Nat.{add-zero}
+use native.Mathlib.Numerals.{add-one}
+use Rattle.std.specs.List.{fold}
+use Rattle.std.proofs.lemmas.List.Sums.{fold-append}
 use mathlib.Core.Path.{◌≡◌, refl, sym, ◌∙◌, ap, subst}
-use mathlib.Core.List.{List}
+use mathlib.Core.List.{List, [], ◌∷◌}
 use lib.Bits.{bit_or, bit_and}
 use lib.Dec.{eqb, ltb}
-use lib.ListN.{length, get_or, set, length-set}
-use lib.Seq.{set-get_or, get_or-set_same, get_or-set_other}
+use Rattle.std.specs.Prelude.{Option, Some}
+use Rattle.model.specs.declared.Place.{Place}
+use lib.ListN.{length, get_or, set, take, length-set}
+use lib.Seq.{take-suc, set-get_or, get_or-set_same, get_or-set_other}
 use borrow.Author.Tests.{eq-eqb, ne_eqb, lt-ltb, le-ltb}
 use Rattle.model.specs.Choice.{pick, on}
 use Rattle.model.specs.Lists.{largest_to, word_of}
 use Rattle.model.proofs.Lists.{largest_none, largest_more}
 use Rattle.machine.specs.Machine.{mask, next_place, ready_after, raised_by}
-use Rattle.machine.specs.Slices.{WordsHeld, reported_in}
-use Rattle.machine.proofs.WordLaws.{next_same}
+use Rattle.machine.specs.Slices.{WordsHeld, place_or_none, reported_in}
+use Rattle.machine.proofs.WordLaws.{next_same, place_some}
 use Rattle.machine.proofs.MachineLaws.{other_word}
 
 -- a word that is not changed is stored as it is
@@ -56,8 +61,9 @@ module _ (word place : ℕ) (ready : List ℕ) where
   pub words_stay : (word - 1 ≡ 0 → ⊥) → ready ≡ set ready own (after own)
   words_stay some = rw (ne_eqb word 1 (λ e. some (omega arith))) (stays ready own)
 
-  pub place_stays : (word - 1 ≡ 0 → ⊥) → place ≡ next_place (word_of ready) → place ≡ next_place after
-  place_stays some e = rw (ne_eqb word 1 (λ z. some (omega arith))) e
+  pub place_stays : (word - 1 ≡ 0 → ⊥) → place ≡ next_place (word_of ready) → place < 256 →
+      ◌≡◌ {A = Option Place} (Some (record { 0 = place })) (place_or_none (next_place after))
+  place_stays some e low = rw (ne_eqb word 1 (λ z. some (omega arith))) (place_some place (next_place (word_of ready)) e low)
 
   module _ (some : 1 ≤ word) (none : word - 1 ≡ 0) where
     pub words_cleared : (now : List ℕ) → now ≡ set ready own (bit_and (word_of ready own) (18446744073709551615 - mask place)) →
@@ -77,8 +83,9 @@ module _ (word place : ℕ) (ready : List ℕ) where
               ∙ sym (other_word (eqb word 1) place (word_of ready) w d)
         ]
 
-    pub place_after : (now : List ℕ) (r : ℕ) → own < length ready → now ≡ set ready own (after own) → r ≡ next_place (word_of now) → r ≡ next_place after
-    place_after now r inside e is = is ∙ next_same (word_of now) after (words_after now inside e)
+    pub place_after : (now : List ℕ) (r : Option Place) → own < length ready → now ≡ set ready own (after own) → r ≡ place_or_none (next_place (word_of now)) →
+        r ≡ place_or_none (next_place after)
+    place_after now r inside e is = is ∙ ap place_or_none (next_same (word_of now) after (words_after now inside e))
 
   -- words of no task stay without a bit
   pub rest_stays : (now : List ℕ) (n : ℕ) → place < n → WordsHeld n ready →
@@ -102,13 +109,13 @@ module _ (word place at deadline : ℕ) (answers : List ℕ) where
   pub none_reported : (word - 1 ≡ 0 → ⊥) → answers ≡ set answers place (reported_in word at deadline (get_or answers place 0))
   none_reported some = rw (ne_eqb word 1 (λ e. some (omega arith))) (stays answers place)
 
--- the largest of the first words, one more, and all
-module _ (word : ℕ → ℕ) where
-  pub largest_first : 0 ≡ largest_to word 0
-  largest_first = sym (largest_none word)
-
-  pub largest_next : (i found next : ℕ) → found ≡ largest_to word i → next ≡ max found (word i) → next ≡ largest_to word (i + 1)
-  largest_next i found next e step = step ∙ ap (λ (x : ℕ). max x (word i)) e ∙ sym (largest_more word i)
-
-  pub largest_all : (n i found : ℕ) → found ≡ largest_to word i → i ≤ n → n ≤ i → found ≡ largest_to word n
-  largest_all n i found e low high = e ∙ ap (largest_to word) (omega arith)
+-- the largest of the first n words
+pub largest_fold : (words : List ℕ) (n : ℕ) → n ≤ length words → fold max 0 (take n words) ≡ largest_to (word_of words) n
+largest_fold words zero h = sym (largest_none (word_of words))
+largest_fold words (suc n) h =
+    let more : n < length words = omega arith in
+    rw (take-suc words n 0 more)
+    (fold-append max 0 (take n words) (word_of words n ∷ [])
+    ∙ ap (λ (x : ℕ). max x (word_of words n)) (largest_fold words n (omega arith))
+    ∙ sym (largest_more (word_of words) n)
+    ∙ ap (largest_to (word_of words)) (add-one n))

@@ -1,16 +1,27 @@
 -- The place that the ready words give: the lowest whose bit is set.
 -- Assumes nothing.
 use Prim.Native.Nat.{ℕ, zero, suc, ◌+◌, ◌-◌, ◌*◌, ◌/◌, ◌%◌, ◌^◌, ◌≤◌, ◌<◌}
-use native.Mathlib.Nat.{one-mul, zero-div}
+use native.Mathlib.Nat.{one-mul, zero-div, zero-add, add-zero}
 use native.Mathlib.Decide.{dec_lt, ℕ_discrete}
-use native.Mathlib.Numerals.{add-one}
 use native.Mathlib.Omega.{arith}
 use mathlib.Core.Path.{◌≡◌, refl, sym, ◌∙◌, ap, fun_ext}
+use mathlib.Core.Bool.{Bool, true, false, not}
+use mathlib.Core.List.{List}
+use lib.ListN.{length, take}
+use Rattle.std.specs.Prelude.{Option, Some, None, IsSome, is_some, ◌==◌}
+use Rattle.std.specs.List.{position}
+use Rattle.std.proofs.lemmas.Bool.Decides.{nat_tests}
+use Rattle.model.specs.declared.Place.{Place}
+use Rattle.model.specs.Choice.{pick}
+use Rattle.model.specs.Lists.{word_of}
+use Rattle.model.proofs.Tests.{clash}
 use lib.Count.{count_trailing_zeros}
 use lib.Dec.{lit<}
 use lib.Pow.{shl_exact}
 use borrow.Author.Tests.{eq-eqb, ne_eqb}
 use Rattle.machine.specs.Machine.{bit_of, bit_at, mask, next_from, next_place}
+use Rattle.machine.specs.Slices.{place_or_none}
+use Rattle.machine.proofs.Positions.{first_passes, none_passes}
 use Rattle.machine.proofs.BitLaws.{no_bits, lowest_first, lowest_set}
 
 -- a shift of 1 makes the mask
@@ -104,25 +115,81 @@ module _ (ready : ℕ → ℕ) where
     pub lowest_next : Lowest ready (next_place ready)
     lowest_next = lowest_from 0 4 refl (λ v h. absurd (omega arith))
 
--- Word after word: where the search has come to word w,
-module _ (ready : ℕ → ℕ) (w : ℕ) where
-  pub place_here : (b : ℕ) → w < 4 → next_place ready ≡ next_from ready w (4 - w) → ¬ (ready w ≡ 0) → b ≡ count_trailing_zeros 64 (ready w) →
+-- The first word that has a bit has the place: the words before it are passed over.
+module _ (ready : ℕ → ℕ) where
+  next_behind : (w k rest : ℕ) → ((v : ℕ) → w ≤ v → v < w + k → ready v ≡ 0) → next_from ready w (k + rest) ≡ next_from ready (w + k) rest
+  next_behind w zero rest none = rw (zero-add rest, add-zero w) refl
+  next_behind w (suc k) rest none =
+      let on : suc k + rest ≡ suc (k + rest) = omega arith in
+      let end : suc w + k ≡ w + suc k = omega arith in
+      ap (next_from ready w) on
+      ∙ next_skip ready w (k + rest) (none w (omega arith) (omega arith))
+      ∙ next_behind (suc w) k rest (λ v low high. none v (omega arith) (omega arith))
+      ∙ ap (λ (v : ℕ). next_from ready v rest) end
+
+  pub place_here : (w b : ℕ) → w < 4 → ((v : ℕ) → v < w → ready v ≡ 0) → ¬ (ready w ≡ 0) → b ≡ count_trailing_zeros 64 (ready w) →
       64 * w + b ≡ next_place ready
-  place_here b small so_far some e =
-      let left : 4 - w ≡ suc (3 - w) = omega arith in
-      rw e (sym (so_far ∙ ap (next_from ready w) left ∙ next_here ready w (3 - w) some))
+  place_here w b small none some e =
+      let all : 4 ≡ w + suc (3 - w) = omega arith in
+      let here : 0 + w ≡ w = zero-add w in
+      rw e
+      (sym (ap (next_from ready 0) all
+      ∙ next_behind 0 w (suc (3 - w)) (λ v low high. none v (omega arith))
+      ∙ ap (λ (v : ℕ). next_from ready v (suc (3 - w))) here
+      ∙ next_here ready w (3 - w) some))
 
-  pub place_on : w < 4 → next_place ready ≡ next_from ready w (4 - w) → ready w ≡ 0 → next_place ready ≡ next_from ready (w + 1) (4 - (w + 1))
-  place_on small so_far none =
-      let left : 4 - w ≡ suc (3 - w) = omega arith in
-      let rest : 4 - (w + 1) ≡ 3 - w = omega arith in
-      rw (rest, add-one) (so_far ∙ ap (next_from ready w) left ∙ next_skip ready w (3 - w) none)
+-- a place as the code has it
+pub place_some : (p q : ℕ) → p ≡ q → p < 256 → ◌≡◌ {A = Option Place} (Some (record { 0 = p })) (place_or_none q)
+place_some p q e low = rw (← e) (rw (ne_eqb p 256 (omega arith)) refl)
 
--- and where none of the first `count` words has a bit, nor a word behind them
-pub place_none : (ready : ℕ → ℕ) (count : ℕ) → count ≤ 4 → ((w : ℕ) → count ≤ w → ready w ≡ 0) → (w : ℕ) → w ≤ count → count ≤ w →
-    next_place ready ≡ next_from ready w (4 - w) → 256 ≡ next_place ready
-place_none ready count small none w low high so_far =
-    sym (so_far ∙ next_none ready w (4 - w) (λ v h. none v (omega arith)) ∙ omega arith)
+pub place_none : (q : ℕ) → q ≡ 256 → None ≡ place_or_none q
+place_none q e = rw (eq-eqb q 256 e) refl
+
+module _ (place : Option Place) (q : ℕ) (e : place ≡ place_or_none q) where
+  pub place_is : (p : Place) → place ≡ Some p → (p.0 ≡ q) × ¬ (q ≡ 256)
+  place_is p is =
+      elim (ℕ_discrete q 256) [
+        | yes none ↦ absurd (let nothing = e ∙ sym (place_none q none) in cc)
+        | no some ↦ (let found = e ∙ ap (λ (b : Bool). pick b None (Some (record { 0 = q }))) (ne_eqb q 256 some) in cc, some)
+      ]
+
+  pub is_place : ¬ (q ≡ 256) → IsSome place
+  is_place some = rw e (rw (ne_eqb q 256 some) refl)
+
+  pub has_place : is_some place ≡ true → ¬ (q ≡ 256)
+  has_place some none = let nothing = e ∙ sym (place_none q none) in clash (is_some place) some (ap is_some nothing)
+
+  pub no_place : is_some place ≡ false → q ≡ 256
+  no_place none = elim (ℕ_discrete q 256) [ yes e ↦ e | no some ↦ absurd (clash (is_some place) (is_place some) none) ]
+
+-- The words of n tasks are the first `count` of four, in a slice: none of them is used, or the first one that is used has the place.
+module _ (words : List ℕ) (count : ℕ) (few : count ≤ 4) (room : count ≤ length words) (rest : (w : ℕ) → count ≤ w → word_of words w ≡ 0) where
+  abbrev is_used : ℕ → Bool
+  is_used word = not (word == 0)
+
+  used_some : (word : ℕ) → is_used word ≡ true → ¬ (word ≡ 0)
+  used_some word h = grind (arith, nat_tests)
+
+  used_none : (word : ℕ) → is_used word ≡ false → word ≡ 0
+  used_none word h = grind (arith, nat_tests)
+
+  pub place_found : (w b : ℕ) → position is_used (take count words) ≡ Some w → b ≡ count_trailing_zeros 64 (word_of words w) → b < 64 →
+      ◌≡◌ {A = Option Place} (Some (record { 0 = 64 * w + b })) (place_or_none (next_place (word_of words)))
+  place_found w b found e low =
+      let first = first_passes is_used words count room w found in
+      place_some (64 * w + b) (next_place (word_of words))
+      (place_here (word_of words) w b (omega (arith, first.0)) (λ v h. used_none (word_of words v) (first.2 v h)) (used_some (word_of words w) first.1) e)
+      (omega (arith, first.0))
+
+  pub place_missed : position is_used (take count words) ≡ None → None ≡ place_or_none (next_place (word_of words))
+  place_missed missed = place_none (next_place (word_of words)) (next_none (word_of words) 0 4 (λ v h. none v))
+    where
+      none : (v : ℕ) → word_of words v ≡ 0
+      none v =
+          elim (dec_lt v count) [
+            | yes h ↦ used_none (word_of words v) (none_passes is_used words count room missed v h)
+            | no h ↦ rest v (omega arith)
+          ]
 
 -- the same words give the same place
 pub next_same : (ready other : ℕ → ℕ) → ((w : ℕ) → ready w ≡ other w) → next_place ready ≡ next_place other

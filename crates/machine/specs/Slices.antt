@@ -1,6 +1,7 @@
 -- What the engine's slices hold, within which limits, and what a tick leaves in them.
 -- Assumes nothing.
-use Rattle.std.specs.Prelude.{ℕ, ◌+◌, ◌-◌, ◌*◌, ◌/◌, ◌≤◌, ◌<◌, min, ◌≡◌, List, eqb, ltb, length, set}
+use Rattle.std.specs.Prelude.{ℕ, ◌+◌, ◌-◌, ◌*◌, ◌/◌, ◌≤◌, ◌<◌, min, ◌≡◌, List, Option, None, Some, eqb, ltb, length, set}
+use Rattle.model.specs.declared.Place.{Place}
 use Rattle.model.specs.Choice.{pick, both}
 use Rattle.model.specs.Lists.{filled, word_of}
 use Rattle.machine.specs.Machine.{State, left_with, due_with, raised, in_word, released, served, next_place, after, earliest, behind, next_in, ticks_played}
@@ -67,9 +68,13 @@ pub record StateHeld (n t : ℕ) (k : Kept) : Type 0 where
   pub nexts_are : (w : ℕ) → w < words_for n → word_of k.nexts w ≡ next_in (word_of k.due) n w
   pub not_past : (p : ℕ) → p < n → t ≤ word_of k.due p
 
+-- a place as the code has it: none for 256, behind the last bit of the fourth word
+abbrev pub place_or_none : ℕ → Option Place
+place_or_none p = pick (eqb p 256) None (Some (record { 0 = p }))
+
 -- the place of the next task, and the earliest tick at which one is due
-pub record NextKnown (n : ℕ) (k : Kept) (place next : ℕ) : Type 0 where
-  pub place_is : place ≡ next_place (word_of k.ready)
+pub record NextKnown (n : ℕ) (k : Kept) (place : Option Place) (next : ℕ) : Type 0 where
+  pub place_is : place ≡ place_or_none (next_place (word_of k.ready))
   pub next_is : next ≡ earliest (word_of k.due) n
 
 -- what a tick, or its releases, leave in the slices: a state in place of another, and the earliest ticks at which something is due, in each
@@ -117,10 +122,10 @@ pub record StartHeld (n : ℕ) (k : Kept) : Type 0 where
   pub no_next : (w : ℕ) → w < words_for n → word_of k.nexts w ≡ 0
 
 -- what a play of at most `limit` ticks leaves in them: the state after the ticks that it played, how many these are, and the next task's place
-pub record PlayLeaves (periods costs : List ℕ) (n limit : ℕ) (before now : Kept) (ticks place next : ℕ) : Type 0 where
+pub record PlayLeaves (periods costs : List ℕ) (n limit : ℕ) (before now : Kept) (ticks : ℕ) (place : Option Place) (next : ℕ) : Type 0 where
   pub ticks_are : ticks ≡ ticks_played (word_of periods) (word_of costs) n limit
   pub state_is : Leaves n before (after (word_of periods) (word_of costs) n ticks) now next
-  pub place_is : place ≡ next_place (after (word_of periods) (word_of costs) n ticks).ready
+  pub place_is : place ≡ place_or_none (next_place (after (word_of periods) (word_of costs) n ticks).ready)
 
 -- the tick has a place to serve: one of the n tasks, with work
 pub record HasNext (n : ℕ) (state : State) : Type 0 where

@@ -3,4 +3,5 @@
 #![tactic(auto)]
 
 pub mod release;
+pub mod tasks;
 pub mod words;

@@ -5,26 +5,15 @@ ghost use Rattle.model.specs.Choice.{on};
 ghost use Rattle.machine.specs.Machine as spec;
 ghost use Rattle.machine.specs.Slices.{TasksHeld, WorkHeld, StateHeld, NoneDue, SomeReleased, WordReleased, Leaves, kept, released_in, words_for};
 
+use crate::tasks::Tasks;
 use crate::words::{TASKS, mask};
 use model::{Place, Ticks};
 
 // A ready word with what is released, and the earliest tick at which a task of it is due again.
-#[derive(Clone, Copy)]
+#[derive(Clone, Copy, Debug, PartialEq, Eq)]
 struct Released {
     ready: u64,
     next: Ticks,
-}
-
-fn earlier(a: Ticks, b: Ticks) -> Ticks
-    ensures { result.0 ≡ min a.0 b.0 }
-{
-    if a.0 < b.0 { a } else { b }
-}
-
-fn fewer(a: usize, b: usize) -> usize
-    ensures { result ≡ min a b }
-{
-    if a < b { a } else { b }
 }
 
 // Releases the task at a place, if it is due: its cost is work, its bit is set, and it is due again a period later.
@@ -47,15 +36,14 @@ fn release_one(
     if due[p] != at.0 {
         return ready;
     }
-    left[p] += cost.0 as u64;
+    left[p] += u64::from(cost.0);
     due[p] += period.0;
     ready | mask(place)
 }
 
 // Looks once at every task from place `first` to before place `to`, the tasks of one word.
 fn release_some(
-    periods: &[u32],
-    costs: &[u32],
+    tasks: Tasks,
     first: usize,
     to: usize,
     at: Ticks,
@@ -63,35 +51,33 @@ fn release_some(
     due: &mut [u32],
     ready: u64,
 ) -> Released
-    requires tasks_held { TasksHeld periods.now costs.now to × WorkHeld first to left.old due.old }
+    requires tasks_held { TasksHeld tasks.periods.now tasks.costs.now to × WorkHeld first to left.old due.old }
     requires first_le_to { (first ≤ to) × NoneDue first at.0 due.old }
-    ensures { SomeReleased periods.now costs.now first to at.0 left.old due.old ready left.new due.new result.ready result.next.0 }
+    ensures { SomeReleased tasks.entry.periods.now tasks.entry.costs.now first to at.0 left.old due.old ready left.new due.new result.ready result.next.0 }
 {
     let mut word = ready;
-    let mut earliest = Ticks(4294967295);
+    let mut earliest = u32::MAX;
     for p in first..to {
         word = release_one(
-            Ticks(periods[p]),
-            Ticks(costs[p]),
+            Ticks(tasks.periods[p]),
+            Ticks(tasks.costs[p]),
             at,
             Place(p),
             left,
             due,
             word,
         );
-        earliest = earlier(earliest, Ticks(due[p]));
+        earliest = earliest.min(due[p]);
     }
     Released {
         ready: word,
-        next: earliest,
+        next: Ticks(earliest),
     }
 }
 
 // Looks into word w where it has a task that is due, and tells the earliest tick at which one of its tasks is due then.
 fn release_word(
-    periods: &[u32],
-    costs: &[u32],
-    n: usize,
+    tasks: Tasks,
     w: usize,
     at: Ticks,
     left: &mut [u64],
@@ -99,10 +85,10 @@ fn release_word(
     ready: &mut [u64],
     nexts: &mut [u32],
 ) -> Ticks
-    requires tasks_held { TasksHeld periods.now costs.now n × WorkHeld (64 * w) n left.old due.old × NoneDue (64 * w) at.0 due.old }
-    requires w_bound { (w < words_for n) × (w < length ready.old) × (w < length nexts.old) }
-    requires w_value { (word_of nexts.old w ≡ spec.next_in (word_of due.old) n w) × (at.0 ≤ word_of nexts.old w) }
-    ensures { WordReleased periods.now costs.now n w at.0 (kept left.old due.old ready.old nexts.old) (kept left.new due.new ready.new nexts.new) result.0 }
+    requires tasks_held { TasksHeld tasks.periods.now tasks.costs.now tasks.n × WorkHeld (64 * w) tasks.n left.old due.old × NoneDue (64 * w) at.0 due.old }
+    requires w_bound { (w < words_for tasks.n) × (w < length ready.old) × (w < length nexts.old) }
+    requires w_value { (word_of nexts.old w ≡ spec.next_in (word_of due.old) tasks.n w) × (at.0 ≤ word_of nexts.old w) }
+    ensures { WordReleased tasks.entry.periods.now tasks.entry.costs.now tasks.entry.n w at.0 (kept left.old due.old ready.old nexts.old) (kept left.new due.new ready.new nexts.new) result.0 }
 {
     let next = nexts[w];
     if at.0 < next {
@@ -110,10 +96,9 @@ fn release_word(
     }
     let first = TASKS * w;
     let released = release_some(
-        periods,
-        costs,
+        tasks,
         first,
-        fewer(n, first + TASKS),
+        tasks.n.min(first + TASKS),
         at,
         left,
         due,
@@ -121,29 +106,26 @@ fn release_word(
     );
     ready[w] = released.ready;
     nexts[w] = released.next.0;
-    Ticks(released.next.0)
+    released.next
 }
 
 // Looks into every word that has a task that is due, and tells the earliest tick at which a task is due then.
 pub fn release(
-    periods: &[u32],
-    costs: &[u32],
-    n: usize,
-    count: usize,
+    tasks: Tasks,
     at: Ticks,
     left: &mut [u64],
     due: &mut [u32],
     ready: &mut [u64],
     nexts: &mut [u32],
 ) -> Ticks
-    requires tasks_held { TasksHeld periods.now costs.now n × (count ≡ words_for n) × (at.0 < 1000000) }
-    requires state_held { StateHeld n at.0 (kept left.old due.old ready.old nexts.old) }
-    ensures { Leaves n (kept left.old due.old ready.old nexts.old) (released_in periods.now costs.now n at.0 (kept left.old due.old ready.old nexts.old)) (kept left.new due.new ready.new nexts.new) result.0 }
+    requires tasks_held { TasksHeld tasks.periods.now tasks.costs.now tasks.n × (at.0 < 1000000) }
+    requires state_held { StateHeld tasks.n at.0 (kept left.old due.old ready.old nexts.old) }
+    ensures { Leaves tasks.entry.n (kept left.old due.old ready.old nexts.old) (released_in tasks.entry.periods.now tasks.entry.costs.now tasks.entry.n at.0 (kept left.old due.old ready.old nexts.old)) (kept left.new due.new ready.new nexts.new) result.0 }
 {
-    let mut earliest = Ticks(4294967295);
-    for w in 0..count {
-        let again = release_word(periods, costs, n, w, at, left, due, ready, nexts);
-        earliest = earlier(earliest, again);
+    let mut earliest = u32::MAX;
+    for w in 0..tasks.words {
+        let again = release_word(tasks, w, at, left, due, ready, nexts);
+        earliest = earliest.min(again.0);
     }
-    earliest
+    Ticks(earliest)
 }

@@ -4,22 +4,26 @@ use Prim.Native.Nat.{ℕ, zero, suc, ◌+◌, ◌-◌, ◌*◌, ◌≤◌, ◌<�
 use native.Mathlib.Omega.{arith}
 use native.Mathlib.Decide.{dec_lt}
 use native.Mathlib.Numerals.{add-one}
-use mathlib.Core.Path.{◌≡◌, refl, sym, ◌∙◌, ap, fun_ext}
-use mathlib.Core.Bool.{Bool}
-use mathlib.Core.List.{List}
+use mathlib.Core.Path.{◌≡◌, refl, sym, ◌∙◌, ap, subst, fun_ext}
+use mathlib.Core.Bool.{Bool, true, false}
+use mathlib.Core.List.{List, ◌++◌}
 use mathlib.Core.Logic.{inl, inr}
-use lib.ListN.{length, set, replicate, length-replicate}
+use Rattle.std.specs.Prelude.{Option, None, is_some}
+use Rattle.model.specs.declared.Place.{Place}
+use lib.ListN.{length, set, drop, replicate, length-replicate}
 use borrow.Author.Tests.{eq-eqb, ne_eqb}
-use Rattle.model.specs.Lists.{filled, word_of}
+use Rattle.model.specs.Lists.{filled, tabulate, word_of}
 use Rattle.model.specs.Search.{first_from}
-use Rattle.model.proofs.Lists.{get_d_filled, get_d_filled_past, length_filled}
+use lib.Seq.{ext_get_or}
+use Rattle.std.proofs.lemmas.List.{get_or-replicate}
+use Rattle.model.proofs.Lists.{length_tabulate, get_d_tabulate, get_d_filled, get_d_filled_past, length_filled}
 use Rattle.model.proofs.Filling.{filled_set, filled_again, filled_same, filled_word, is_filled}
 use Rattle.model.proofs.Search.{finds, missed}
 use Rattle.model.proofs.Tests.{eqb?, ltb?, clash}
 use Rattle.machine.specs.Machine.{State, in_word, after, next_place, place_served, earliest, behind, next_in, none, played, up_to, is_quiet, ticks_played}
-use Rattle.machine.specs.Slices.{TasksHeld, DeadlinesHeld, Kept, kept, StateHeld, NextKnown, StartHeld, Leaves, PlayLeaves, HasNext, words_for, state_in, released_in, served_in, reported_in}
+use Rattle.machine.specs.Slices.{place_or_none, TasksHeld, DeadlinesHeld, Kept, kept, StateHeld, NextKnown, StartHeld, Leaves, PlayLeaves, HasNext, words_for, state_in, released_in, served_in, reported_in}
 use Rattle.machine.proofs.MachineLaws.{Next, in_tick, left_step, left_high_law, due_is_law, words_empty, tick_empty, the_next, start_ready, stay_ready, after_own}
-use Rattle.machine.proofs.WordLaws.{next_none}
+use Rattle.machine.proofs.WordLaws.{next_none, place_none, has_place, no_place}
 use Rattle.ticking.proofs.ReportLaws.{search_on, reported, report_none, report_late, report_all, report_on, report_other, report_quiet, report_own}
 use Rattle.machine.proofs.SameLaws.{Same, release_same, serve_same}
 use Rattle.machine.proofs.ReleaseLaws.{earliest_same}
@@ -41,17 +45,17 @@ module _ (periods costs : List ℕ) (n : ℕ) where
   quiet = is_quiet (word_of periods) (word_of costs) n
 
   -- before tick t: the state after the ticks before it stands in the slices, and after none of them all work was done
-  pub record Playing (limit : ℕ) (first : Kept) (t : ℕ) (k : Kept) (place next : ℕ) : Type 0 where
+  pub record Playing (limit : ℕ) (first : Kept) (t : ℕ) (k : Kept) (place : Option Place) (next : ℕ) : Type 0 where
     pub early : t ≤ limit
     pub holds : Leaves n first (engine t) k next
-    pub place_is : place ≡ next_place (engine t).ready
+    pub place_is : place ≡ place_or_none (next_place (engine t).ready)
     pub busy : first_from quiet 1 t ≡ 0
 
   module _ (tasks : TasksHeld periods costs n) (limit : ℕ) (short : limit ≤ 1000000) (first : Kept) (start : StartHeld n first) where
     few : n ≤ 256
     few = omega (arith, tasks.few)
 
-    pub playing_none : Playing limit first 0 first 256 0
+    pub playing_none : Playing limit first 0 first None 0
     unfolding after first_from
     playing_none =
         record {
@@ -67,7 +71,7 @@ module _ (periods costs : List ℕ) (n : ℕ) where
                     (λ w h. start.no_next w h ∙ sym (first_due (in_word n w) (omega arith))) (λ w h. refl);
                 next_is = sym (first_due n tasks.some);
               };
-          place_is = sym (next_none (engine 0).ready 0 4 (λ w h. refl));
+          place_is = place_none (next_place (engine 0).ready) (next_none (engine 0).ready 0 4 (λ w h. refl));
           busy = refl;
         }
 
@@ -79,7 +83,7 @@ module _ (periods costs : List ℕ) (n : ℕ) where
         (λ z. clash (quiet (suc t)) (eq-eqb (next_place (engine (suc t)).ready) 256 z)
         (missed quiet 1 (suc t) (omega arith) busy (suc t) (omega arith) (omega arith)))
 
-    module _ (t : ℕ) (k : Kept) (place next : ℕ) (play : Playing limit first t k place next) where
+    module _ (t : ℕ) (k : Kept) (place : Option Place) (next : ℕ) (play : Playing limit first t k place next) where
       pub left_long_law : length k.left ≡ length first.left
       left_long_law = ap length play.holds.left_is ∙ length_filled (engine t).left n first.left start.left_long
 
@@ -153,7 +157,7 @@ module _ (periods costs : List ℕ) (n : ℕ) where
       pub state_known : NextKnown n k place next
       state_known =
           record {
-            place_is = play.place_is ∙ ap next_place (sym same.ready);
+            place_is = play.place_is ∙ ap (λ (ready : ℕ → ℕ). place_or_none (next_place ready)) (sym same.ready);
             next_is = play.holds.next_is ∙ earliest_same (engine t).due (word_of k.due) n (λ p h. sym (same.due p h));
           }
 
@@ -234,8 +238,8 @@ module _ (periods costs : List ℕ) (n : ℕ) where
               (λ p h other. sym (report_other (word_of periods) (word_of costs) n (word_of deadlines) tasks.cost_low t p h
               (λ e. other (e ∙ sym (place_served_law serves is))))))
 
-      module _ (now : Kept) (following again : ℕ) (leaves : Leaves n k (served_in periods costs n t k) now again)
-          (is : following ≡ next_place (served_in periods costs n t k).ready) where
+      module _ (now : Kept) (following : Option Place) (again : ℕ) (leaves : Leaves n k (served_in periods costs n t k) now again)
+          (is : following ≡ place_or_none (next_place (served_in periods costs n t k).ready)) where
         served_same : Same n (served_in periods costs n t k) (engine (suc t))
         unfolding after
         served_same =
@@ -275,25 +279,28 @@ module _ (periods costs : List ℕ) (n : ℕ) where
             again_filled f g h m old words room are alike =
                 ap (filled g m) are ∙ filled_again f g m old room ∙ filled_same g h m old alike
 
-        follows : following ≡ next_place (engine (suc t)).ready
-        follows = is ∙ ap next_place served_same.ready
+        follows : following ≡ place_or_none (next_place (engine (suc t)).ready)
+        follows = is ∙ ap (λ (ready : ℕ → ℕ). place_or_none (next_place ready)) served_same.ready
+
+        is_over : is_some following ≡ false → next_place (engine (suc t)).ready ≡ 256
+        is_over = no_place following (next_place (engine (suc t)).ready) follows
 
         -- where work is left, the play goes on
-        pub playing_more : (u : ℕ) → u ≡ t + 1 → t < limit → ¬ (following ≡ 256) → Playing limit first u now following again
+        pub playing_more : (u : ℕ) → u ≡ t + 1 → t < limit → is_some following ≡ true → Playing limit first u now following again
         playing_more u one more some =
             rw (one, add-one) (record {
               early = more;
               holds = leaves_next;
               place_is = follows;
-              busy = search_on quiet t (ne_eqb (next_place (engine (suc t)).ready) 256 (λ z. some (follows ∙ z))) ∙ play.busy;
+              busy = search_on quiet t (ne_eqb (next_place (engine (suc t)).ready) 256 (has_place following (next_place (engine (suc t)).ready) follows some)) ∙ play.busy;
             })
 
         -- where none is left, it stops, and it is the first tick with that
-        pub stops_quiet : (u : ℕ) → u ≡ t + 1 → t < limit → following ≡ 256 → PlayLeaves periods costs n limit first now u following again
+        pub stops_quiet : (u : ℕ) → u ≡ t + 1 → t < limit → is_some following ≡ false → PlayLeaves periods costs n limit first now u following again
         unfolding ticks_played
         stops_quiet u one more all =
             let found : first_from quiet 1 limit ≡ suc t = finds quiet 1 limit (suc t) (record {
-              passes = eq-eqb (next_place (engine (suc t)).ready) 256 (sym follows ∙ all);
+              passes = eq-eqb (next_place (engine (suc t)).ready) 256 (is_over all);
               low = omega arith;
               high = omega arith;
               first = λ v low high. missed quiet 1 t (omega arith) play.busy v low (omega arith);
@@ -303,24 +310,25 @@ module _ (periods costs : List ℕ) (n : ℕ) where
 
         -- and all is told
         pub told_all : (deadlines old reports : List ℕ) →
-            reports ≡ filled (reported (word_of periods) (word_of costs) n (word_of deadlines) (t + 1)) n old → t < limit → following ≡ 256 →
+            reports ≡ filled (reported (word_of periods) (word_of costs) n (word_of deadlines) (t + 1)) n old → t < limit → is_some following ≡ false →
             reports ≡ filled (played (word_of periods) (word_of costs) n (up_to limit (word_of deadlines))) n old
         told_all deadlines old reports are more all =
             rw add-one at are
             ∙ filled_same (reported (word_of periods) (word_of costs) n (word_of deadlines) (suc t))
             (played (word_of periods) (word_of costs) n (up_to limit (word_of deadlines))) n old
             (λ p h. report_quiet (word_of periods) (word_of costs) n (word_of deadlines) tasks.cost_low few (suc t) limit p h
-            (omega arith) more (sym follows ∙ all))
+            (omega arith) more (is_over all))
 
       -- where the limit is reached, it stops too
       at_limit : limit ≤ t → t ≡ limit
       at_limit past = omega (arith, play.early)
 
-      pub stops_late : limit ≤ t → PlayLeaves periods costs n limit first k t place next
+      pub stops_late : limit ≤ t → PlayLeaves periods costs n limit first k limit place next
       unfolding ticks_played
       stops_late past =
           let nothing : first_from quiet 1 limit ≡ 0 = ap (first_from quiet 1) (sym (at_limit past)) ∙ play.busy in
-          record { ticks_are = rw nothing (at_limit past); state_is = play.holds; place_is = play.place_is }
+          subst (λ (u : ℕ). PlayLeaves periods costs n limit first k u place next) (at_limit past)
+          (record { ticks_are = rw nothing (at_limit past); state_is = play.holds; place_is = play.place_is })
 
       pub told_late : (deadlines old answers : List ℕ) → answers ≡ filled (reported (word_of periods) (word_of costs) n (word_of deadlines) t) n old →
           limit ≤ t → answers ≡ filled (played (word_of periods) (word_of costs) n (up_to limit (word_of deadlines))) n old
@@ -372,3 +380,12 @@ start_held n left due few left_long due_long no_work all_due =
     zero_word (suc (suc zero)) = refl
     zero_word (suc (suc (suc zero))) = refl
     zero_word (suc (suc (suc (suc w)))) = refl
+
+-- words that are filled with 0 hold no answer
+pub zeros_filled : (n : ℕ) (words zeros : List ℕ) → zeros ≡ replicate n 0 → zeros ++ drop n words ≡ filled none n words
+zeros_filled n words zeros e = ap (λ (front : List ℕ). front ++ drop n words) (e ∙ sym (all n))
+  where
+    all : (m : ℕ) → tabulate none m ≡ replicate m 0
+    all m =
+        ext_get_or 0 (tabulate none m) (replicate m 0) (length_tabulate none m ∙ sym (length-replicate {A = ℕ} m 0))
+        (λ k h. get_d_tabulate none m k 0 (omega (arith, length_tabulate none m)) ∙ sym (get_or-replicate m k 0 0 (omega (arith, length_tabulate none m))))

@@ -5,12 +5,14 @@ use native.Mathlib.Omega.{arith}
 use mathlib.Core.Path.{◌≡◌, sym, ◌∙◌, ap}
 use mathlib.Core.List.{List}
 use lib.Dec.{eqb}
+use Rattle.std.specs.Prelude.{Option}
+use Rattle.model.specs.declared.Place.{Place}
 use lib.ListN.{length, set}
 use Rattle.model.specs.Lists.{word_of}
 use Rattle.model.proofs.Lists.{get_d_filled, length_filled}
 use Rattle.model.proofs.Filling.{filled_set}
 use Rattle.machine.specs.Machine.{State, next_place, left_after, ready_after}
-use Rattle.machine.specs.Slices.{Kept, kept, TasksHeld, StateHeld, Leaves, HasNext, released_in, served_in, reported_in, words_for}
+use Rattle.machine.specs.Slices.{place_or_none, Kept, kept, TasksHeld, StateHeld, Leaves, HasNext, released_in, served_in, reported_in, words_for}
 use Rattle.machine.proofs.MachineLaws.{after_own, after_other, other_word}
 use Rattle.machine.proofs.WordLaws.{next_same}
 use Rattle.machine.proofs.ReleaseLaws.{word_left}
@@ -75,12 +77,12 @@ module _ (periods costs : List ℕ) (n t : ℕ) (before : Kept) (tasks : TasksHe
       }
 
   -- and so is the place of the task behind it
-  pub tick_follows : (following : ℕ) →
-      following ≡ next_place (ready_after (eqb (word_of now.left place) 1) place (word_of now.ready)) →
-      following ≡ next_place words_after
+  pub tick_follows : (following : Option Place) →
+      following ≡ place_or_none (next_place (ready_after (eqb (word_of now.left place) 1) place (word_of now.ready))) →
+      following ≡ place_or_none (next_place words_after)
   tick_follows following e =
       e
-      ∙ next_same (ready_after (eqb (word_of now.left place) 1) place (word_of now.ready)) words_after words_same
+      ∙ ap place_or_none (next_same (ready_after (eqb (word_of now.left place) 1) place (word_of now.ready)) words_after words_same)
 
   -- and what it reports, by the work that was there
   pub tick_reported : (deadline : ℕ) (answers reports : List ℕ) →

@@ -27,8 +27,26 @@ any_tie-requires c = (right _ _ _ _ _ c.requires.numbers_held, c.count-n.ensures
 pub returns-then-any_tie : goal.returns-then-any_tie
 returns-then-any_tie c = tie_refused _ _ _ _ _ c.requires.numbers_held _ c.count-n.ensures.0 _ c.if-answers-n.false (sym c.any_tie.ensures ∙ c.if-any_tie.true)
 
-pub play_all-requires : goal.play_all-requires
-play_all-requires c = let held = tasks_held _ _ _ _ _ c.requires.numbers_held _ c.count-n.ensures.0 in record { tasks_held = held; deadlines_held = deadlines_held_law _ _ _ _ _ c.requires.numbers_held _ c.count-n.ensures.0; start_held = start_held _ _ _ (omega (arith, held.few)) (omega (arith, c.requires.zeros.0.long, c.count-n.ensures.0)) (omega (arith, c.requires.zeros.1.long, c.count-n.ensures.0)) (λ p h. c.requires.zeros.0.each p (omega (arith, c.count-n.ensures.0))) (λ p h. c.requires.zeros.1.each p (omega (arith, c.count-n.ensures.0))); limit_bound = (limit_high _ _ _ _ _ c.requires.numbers_held _ c.count-n.ensures.0 _ c.largest-limit.ensures, c.if-answers-n.false) }
+pub play_all-requires-clause-tasks_held : goal.play_all-requires-clause-tasks_held
+play_all-requires-clause-tasks_held c =
+    rw (c.new-tasks.ensures.periods_are, c.new-tasks.ensures.costs_are, c.new-tasks.ensures.n_is)
+    (tasks_held _ _ _ _ _ c.requires.numbers_held _ c.count-n.ensures.0)
+
+pub play_all-requires-clause-deadlines_held : goal.play_all-requires-clause-deadlines_held
+play_all-requires-clause-deadlines_held c =
+    rw (c.new-tasks.ensures.periods_are, c.new-tasks.ensures.deadlines_are, c.new-tasks.ensures.n_is)
+    (deadlines_held_law _ _ _ _ _ c.requires.numbers_held _ c.count-n.ensures.0)
+
+pub play_all-requires-clause-start_held : goal.play_all-requires-clause-start_held
+play_all-requires-clause-start_held c =
+    let held = tasks_held _ _ _ _ _ c.requires.numbers_held _ c.count-n.ensures.0 in
+    rw c.new-tasks.ensures.n_is
+    (start_held _ _ _ (omega (arith, held.few)) (omega (arith, c.requires.zeros.0.long, c.count-n.ensures.0)) (omega (arith, c.requires.zeros.1.long, c.count-n.ensures.0)) (λ p h. c.requires.zeros.0.each p (omega (arith, c.count-n.ensures.0))) (λ p h. c.requires.zeros.1.each p (omega (arith, c.count-n.ensures.0))))
+
+pub play_all-requires-clause-limit_bound : goal.play_all-requires-clause-limit_bound
+play_all-requires-clause-limit_bound c = (limit_high _ _ _ _ _ c.requires.numbers_held _ c.count-n.ensures.0 _ c.largest-limit.ensures, rw c.new-tasks.ensures.n_is c.if-answers-n.false)
 
 pub returns : goal.returns
-returns c = all_played _ _ _ _ _ c.requires.numbers_held _ c.count-n.ensures.0 _ c.if-answers-n.false c.if-table-ne0.false (sym c.any_delay.ensures ∙ c.if-any_delay.false) (sym c.any_tie.ensures ∙ c.if-any_tie.false) _ _ _ c.largest-limit.ensures c.play_all.ensures.answers_after c.result.ensures
+returns c =
+    let played = rw (c.new-tasks.ensures.periods_are, c.new-tasks.ensures.costs_are, c.new-tasks.ensures.deadlines_are, c.new-tasks.ensures.n_is) at c.play_all.ensures.answers_after in
+    all_played _ _ _ _ _ c.requires.numbers_held _ c.count-n.ensures.0 _ c.if-answers-n.false c.if-table-ne0.false (sym c.any_delay.ensures ∙ c.if-any_delay.false) (sym c.any_tie.ensures ∙ c.if-any_tie.false) _ _ _ c.largest-limit.ensures played c.result.ensures

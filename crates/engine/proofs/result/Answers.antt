@@ -1,15 +1,11 @@
--- `engine::result` meets its contract: the loop stops at the first answer that is 0.
+-- `engine::result` meets its contract: late is said with the first place whose answer is 0.
 -- Assumes nothing.
-use native.Mathlib.Omega.{arith}
-use Rattle.model.specs.Lists.{word_of}
-use Rattle.engine.proofs.PlayedLaws.{result_none, result_on, result_late}
+use mathlib.Core.Path.{sym, ◌∙◌}
+use Rattle.engine.proofs.PlayedLaws.{late_found, none_late}
 use Rattle.engine.proofs.result.Goals as goal
 
-pub loop-i-init : goal.loop-i-init
-loop-i-init c = (result_none (word_of c.args.answers.now), omega arith)
+pub returns-in-Some : goal.returns-in-Some
+returns-in-Some c = late_found c.args.answers.now c.args.n c.requires _ (sym c.first_late.ensures ∙ c.in-Some.is)
 
-pub returns-then-answers-i-eq0 : goal.returns-then-answers-i-eq0
-returns-then-answers-i-eq0 c = result_late (word_of c.args.answers.now) _ _ c.loop-i.invariant.0 c.if-answers-i-eq0.true c.loop-i-test.true
-
-pub loop-i-preserved : goal.loop-i-preserved
-loop-i-preserved c = (result_on (word_of c.args.answers.now) _ c.loop-i.invariant.0 c.if-answers-i-eq0.false, omega (arith, c.loop-i-test.true))
+pub returns-in-None : goal.returns-in-None
+returns-in-None c = none_late c.args.answers.now c.args.n c.requires (sym c.first_late.ensures ∙ c.in-None.is)

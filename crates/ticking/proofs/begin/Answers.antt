@@ -4,8 +4,8 @@ use Rattle.machine.specs.Slices.{kept}
 use Rattle.machine.proofs.ReleaseLaws.{nothing_due, place_stays, place_left}
 use Rattle.ticking.proofs.begin.Goals as goal
 
-pub returns-then-at-next : goal.returns-then-at-next
-returns-then-at-next c = record { leaves = nothing_due c.args.periods.now c.args.costs.now c.args.n c.args.at.0 (kept c.args.left.now c.args.due.now c.args.ready.now c.args.nexts.now) c.requires.tasks_held.0 c.requires.state_held.0 c.args.place.0 c.args.next.0 c.requires.state_held.1 c.if-at-next.true; place_value = place_stays c.args.periods.now c.args.costs.now c.args.n c.args.at.0 (kept c.args.left.now c.args.due.now c.args.ready.now c.args.nexts.now) c.requires.tasks_held.0 c.requires.state_held.0 c.args.place.0 c.args.next.0 c.requires.state_held.1 c.if-at-next.true }
+pub returns-then-at-ahead : goal.returns-then-at-ahead
+returns-then-at-ahead c = record { leaves = nothing_due c.args.tasks.periods.now c.args.tasks.costs.now c.args.tasks.n c.args.at.0 (kept c.args.left.now c.args.due.now c.args.ready.now c.args.nexts.now) c.requires.tasks_held.0 c.requires.state_held.0 c.args.ahead.place c.args.ahead.next.0 c.requires.state_held.1 c.if-at-ahead.true; place_value = place_stays c.args.tasks.periods.now c.args.tasks.costs.now c.args.tasks.n c.args.at.0 (kept c.args.left.now c.args.due.now c.args.ready.now c.args.nexts.now) c.requires.tasks_held.0 c.requires.state_held.0 c.args.ahead.place c.args.ahead.next.0 c.requires.state_held.1 c.if-at-ahead.true }
 
 pub returns : goal.returns
-returns c = record { leaves = c.release-later.ensures; place_value = place_left c.args.periods.now c.args.costs.now c.args.n c.args.at.0 (kept c.args.left.now c.args.due.now c.args.ready.now c.args.nexts.now) c.requires.tasks_held.0 c.requires.state_held.0 _ _ c.release-later.ensures _ c.next_place.ensures }
+returns c = record { leaves = c.release-next.ensures; place_value = place_left c.args.tasks.periods.now c.args.tasks.costs.now c.args.tasks.n c.args.at.0 (kept c.args.left.now c.args.due.now c.args.ready.now c.args.nexts.now) c.requires.tasks_held.0 c.requires.state_held.0 _ _ c.release-next.ensures _ c.next_place.ensures }

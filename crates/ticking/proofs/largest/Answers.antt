@@ -1,11 +1,10 @@
--- `ticking::largest` meets its contract: each turn looks at one word.
+-- `ticking::largest` meets its contract: it is the greatest of the first n words.
 -- Assumes nothing.
-use native.Mathlib.Omega.{arith}
-use Rattle.machine.proofs.StepLaws.{largest_first, largest_next}
+use Rattle.std.proofs.Common.{◌≡◌, take, max, rules, ◌∙◌}
+use Rattle.std.specs.List.{fold}
+use Rattle.machine.proofs.StepLaws.{largest_fold}
 use Rattle.ticking.proofs.largest.Goals as goal
 
-pub loop-i-init : goal.loop-i-init
-loop-i-init c = (largest_first _, omega arith)
-
-pub loop-i-preserved : goal.loop-i-preserved
-loop-i-preserved c = (largest_next _ _ _ _ c.loop-i.invariant.0 c.larger-found.ensures, omega (arith, c.loop-i-test.true))
+pub returns : goal.returns
+returns c = let mirrored : c.fold.result ≡ fold max 0 (take c.args.n c.args.words.now) = search rules in
+    mirrored ∙ largest_fold c.args.words.now c.args.n c.requires

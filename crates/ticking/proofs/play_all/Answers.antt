@@ -2,23 +2,52 @@
 -- Assumes nothing.
 use native.Mathlib.Omega.{arith}
 use mathlib.Core.Path.{refl}
-use Rattle.ticking.proofs.PlayLaws.{playing_none, state_held, state_known, has_next, playing_more, stops_quiet, stops_late, told_none, told_more, told_all, told_late, told_over, told_long}
+use Rattle.std.proofs.Common.{◌≡◌, ◌∙◌, ap, not, replicate, rules}
+use Rattle.machine.specs.Machine.{none}
+use Rattle.ticking.proofs.PlayLaws.{playing_none, state_held, state_known, has_next, playing_more, stops_quiet, stops_late, told_none, told_more, told_all, told_late, told_over, told_long, zeros_filled}
 use Rattle.ticking.proofs.play_all.Goals as goal
 
 pub loop-at-init : goal.loop-at-init
-loop-at-init c = (playing_none _ _ _ c.requires.tasks_held _ c.requires.limit_bound.0 _ c.requires.start_held, told_none c.args.periods.now c.args.costs.now c.args.n c.args.deadlines.now _ _ c.requires.limit_bound.1 c.clear.ensures)
+loop-at-init c =
+    let all : c.fill.new.self ≡ replicate c.args.tasks.n 0 = search rules in (
+      playing_none _ _ _ c.requires.tasks_held _ c.requires.limit_bound.0 _ c.requires.start_held,
+      told_none c.args.tasks.periods.now c.args.tasks.costs.now c.args.tasks.n c.args.tasks.deadlines.now _ _ c.requires.limit_bound.1 (zeros_filled c.args.tasks.n c.args.answers.now _ all),
+    )
 
-pub step-tick-requires : goal.step-tick-requires
-step-tick-requires c = let long = told_long _ _ _ _ (omega (arith, c.clear.auto, c.requires.limit_bound.1)) c.loop-at.invariant.1 in record { tasks_held = (c.requires.tasks_held, omega arith); n_in_bounds = (c.requires.deadlines_held.long, omega (arith, long, c.clear.auto, c.requires.limit_bound.1), omega (arith, c.loop-at-test.true, c.requires.limit_bound.0)); state_held = (state_held _ _ _ c.requires.tasks_held _ c.requires.limit_bound.0 _ c.requires.start_held _ _ _ _ c.loop-at.invariant.0, state_known _ _ _ c.requires.tasks_held _ c.requires.limit_bound.0 _ c.requires.start_held _ _ _ _ c.loop-at.invariant.0); has_next = has_next _ _ _ c.requires.tasks_held _ c.requires.limit_bound.0 _ c.requires.start_held _ _ _ _ c.loop-at.invariant.0 }
-
-pub returns-then-place-eq-NO_PLACE : goal.returns-then-place-eq-NO_PLACE
-returns-then-place-eq-NO_PLACE c = let more = told_more _ _ _ c.requires.tasks_held _ c.requires.limit_bound.0 _ c.requires.start_held _ _ _ _ c.loop-at.invariant.0 _ _ _ c.requires.deadlines_held (omega (arith, c.clear.auto, c.requires.limit_bound.1)) _ c.step-tick.ensures.place_value c.loop-at.invariant.1 _ refl _ c.step-tick.ensures.answers_after in record { play_leaves = stops_quiet _ _ _ c.requires.tasks_held _ c.requires.limit_bound.0 _ c.requires.start_held _ _ _ _ c.loop-at.invariant.0 _ _ _ c.step-tick.ensures.leaves c.step-tick.ensures.following_value _ (omega arith) (omega (arith, c.loop-at-test.true)) (omega (arith, c.if-place-eq-NO_PLACE.true)); answers_after = told_over _ _ _ _ _ c.requires.limit_bound.1 c.clear.ensures (told_all _ _ _ c.requires.tasks_held _ c.requires.limit_bound.0 _ c.requires.start_held _ _ _ _ c.loop-at.invariant.0 _ _ _ c.step-tick.ensures.leaves c.step-tick.ensures.following_value c.args.deadlines.now _ _ more (omega (arith, c.loop-at-test.true)) (omega (arith, c.if-place-eq-NO_PLACE.true))) }
-
-pub loop-at-preserved : goal.loop-at-preserved
-loop-at-preserved c = (
-  playing_more _ _ _ c.requires.tasks_held _ c.requires.limit_bound.0 _ c.requires.start_held _ _ _ _ c.loop-at.invariant.0 _ _ _ c.step-tick.ensures.leaves c.step-tick.ensures.following_value _ (omega arith) (omega (arith, c.loop-at-test.true)) (omega (arith, c.if-place-eq-NO_PLACE.false)),
-  told_more _ _ _ c.requires.tasks_held _ c.requires.limit_bound.0 _ c.requires.start_held _ _ _ _ c.loop-at.invariant.0 _ _ _ c.requires.deadlines_held (omega (arith, c.clear.auto, c.requires.limit_bound.1)) _ c.step-tick.ensures.place_value c.loop-at.invariant.1 _ (omega arith) _ c.step-tick.ensures.answers_after,
+pub step-tick-requires-clause-state_held : goal.step-tick-requires-clause-state_held
+step-tick-requires-clause-state_held c = (
+  state_held _ _ _ c.requires.tasks_held _ c.requires.limit_bound.0 _ c.requires.start_held _ _ _ _ c.loop-at.invariant.0,
+  state_known _ _ _ c.requires.tasks_held _ c.requires.limit_bound.0 _ c.requires.start_held _ _ _ _ c.loop-at.invariant.0,
 )
 
+pub step-tick-requires-clause-has_next : goal.step-tick-requires-clause-has_next
+step-tick-requires-clause-has_next c = has_next _ _ _ c.requires.tasks_held _ c.requires.limit_bound.0 _ c.requires.start_held _ _ _ _ c.loop-at.invariant.0
+
+pub returns-then-is_none : goal.returns-then-is_none
+returns-then-is_none c =
+    let all : c.fill.new.self ≡ replicate c.args.tasks.n 0 = search rules in
+    let zeros = zeros_filled c.args.tasks.n c.args.answers.now _ all in
+    let long = told_long c.args.tasks.n none c.args.answers.now _ c.requires.limit_bound.1 zeros in
+    let over = c.is_none.ensures ∙ ap not c.if-is_none.true in
+    let more = told_more _ _ _ c.requires.tasks_held _ c.requires.limit_bound.0 _ c.requires.start_held _ _ _ _ c.loop-at.invariant.0 _ _ _ c.requires.deadlines_held (omega (arith, long, c.requires.limit_bound.1)) _ c.step-tick.ensures.place_value c.loop-at.invariant.1 _ refl _ c.step-tick.ensures.answers_after in
+    record {
+      play_leaves = stops_quiet _ _ _ c.requires.tasks_held _ c.requires.limit_bound.0 _ c.requires.start_held _ _ _ _ c.loop-at.invariant.0 _ _ _ c.step-tick.ensures.leaves c.step-tick.ensures.following_value _ (omega arith) (omega (arith, c.loop-at-test.true)) over;
+      answers_after = told_over _ _ _ _ _ c.requires.limit_bound.1 zeros (told_all _ _ _ c.requires.tasks_held _ c.requires.limit_bound.0 _ c.requires.start_held _ _ _ _ c.loop-at.invariant.0 _ _ _ c.step-tick.ensures.leaves c.step-tick.ensures.following_value c.args.tasks.deadlines.now _ _ more (omega (arith, c.loop-at-test.true)) over);
+    }
+
+pub loop-at-preserved : goal.loop-at-preserved
+loop-at-preserved c =
+    let all : c.fill.new.self ≡ replicate c.args.tasks.n 0 = search rules in
+    let long = told_long c.args.tasks.n none c.args.answers.now _ c.requires.limit_bound.1 (zeros_filled c.args.tasks.n c.args.answers.now _ all) in
+    let more = c.is_none.ensures ∙ ap not c.if-is_none.false in (
+      playing_more _ _ _ c.requires.tasks_held _ c.requires.limit_bound.0 _ c.requires.start_held _ _ _ _ c.loop-at.invariant.0 _ _ _ c.step-tick.ensures.leaves c.step-tick.ensures.following_value _ (omega arith) (omega (arith, c.loop-at-test.true)) more,
+      told_more _ _ _ c.requires.tasks_held _ c.requires.limit_bound.0 _ c.requires.start_held _ _ _ _ c.loop-at.invariant.0 _ _ _ c.requires.deadlines_held (omega (arith, long, c.requires.limit_bound.1)) _ c.step-tick.ensures.place_value c.loop-at.invariant.1 _ (omega arith) _ c.step-tick.ensures.answers_after,
+    )
+
 pub returns : goal.returns
-returns c = record { play_leaves = stops_late _ _ _ c.requires.tasks_held _ c.requires.limit_bound.0 _ c.requires.start_held _ _ _ _ c.loop-at.invariant.0 (omega (arith, c.loop-at-test.false)); answers_after = told_over _ _ _ _ _ c.requires.limit_bound.1 c.clear.ensures (told_late _ _ _ c.requires.tasks_held _ c.requires.limit_bound.0 _ c.requires.start_held _ _ _ _ c.loop-at.invariant.0 c.args.deadlines.now _ _ c.loop-at.invariant.1 (omega (arith, c.loop-at-test.false))) }
+returns c =
+    let all : c.fill.new.self ≡ replicate c.args.tasks.n 0 = search rules in
+    record {
+      play_leaves = stops_late _ _ _ c.requires.tasks_held _ c.requires.limit_bound.0 _ c.requires.start_held _ _ _ _ c.loop-at.invariant.0 (omega (arith, c.loop-at-test.false));
+      answers_after = told_over _ _ _ _ _ c.requires.limit_bound.1 (zeros_filled c.args.tasks.n c.args.answers.now _ all) (told_late _ _ _ c.requires.tasks_held _ c.requires.limit_bound.0 _ c.requires.start_held _ _ _ _ c.loop-at.invariant.0 c.args.tasks.deadlines.now _ _ c.loop-at.invariant.1 (omega (arith, c.loop-at-test.false)));
+    }

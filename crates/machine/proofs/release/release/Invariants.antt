@@ -4,4 +4,4 @@ use Rattle.machine.proofs.release.release.Given as goal
 
 abbrev pub invariant-loop-w : goal.invariant-loop-w
 invariant-loop-w l =
-    Looking l.periods l.costs l.n l.at.0 (kept l.initial.left l.initial.due l.initial.ready l.initial.nexts) l.w (kept l.left l.due l.ready l.nexts) l.earliest.0
+    Looking l.tasks.periods.now l.tasks.costs.now l.tasks.n l.at.0 (kept l.initial.left l.initial.due l.initial.ready l.initial.nexts) l.w (kept l.left l.due l.ready l.nexts) l.earliest

@@ -7,9 +7,9 @@ use Rattle.machine.proofs.release.release_some.Goals as goal
 
 pub loop-p-init : goal.loop-p-init
 loop-p-init c = (
-  releasing_none c.args.periods.now c.args.costs.now c.args.at.0 c.args.left.now c.args.due.now c.args.first c.args.to c.args.ready c.requires.first_le_to.0,
-  left_none c.args.periods.now c.args.costs.now c.args.at.0 c.args.left.now c.args.due.now c.args.first c.args.to c.args.ready c.requires.tasks_held.1.left_long c.requires.first_le_to.0 c.requires.first_le_to.1,
-  due_none c.args.periods.now c.args.costs.now c.args.at.0 c.args.left.now c.args.due.now c.args.first c.args.to c.args.ready c.requires.tasks_held.1.due_long c.requires.first_le_to.0 c.requires.first_le_to.1,
+  releasing_none c.args.tasks.periods.now c.args.tasks.costs.now c.args.at.0 c.args.left.now c.args.due.now c.args.first c.args.to c.args.ready c.requires.first_le_to.0,
+  left_none c.args.tasks.periods.now c.args.tasks.costs.now c.args.at.0 c.args.left.now c.args.due.now c.args.first c.args.to c.args.ready c.requires.tasks_held.1.left_long c.requires.first_le_to.0 c.requires.first_le_to.1,
+  due_none c.args.tasks.periods.now c.args.tasks.costs.now c.args.at.0 c.args.left.now c.args.due.now c.args.first c.args.to c.args.ready c.requires.tasks_held.1.due_long c.requires.first_le_to.0 c.requires.first_le_to.1,
 )
 
 pub release_one-word-requires : goal.release_one-word-requires
@@ -25,7 +25,7 @@ release_one-word-requires c = record {
 
 pub loop-p-preserved : goal.loop-p-preserved
 loop-p-preserved c = (
-  releasing_more c.args.periods.now c.args.costs.now c.args.at.0 c.args.left.now c.args.due.now c.args.first c.args.to c.args.ready c.loop-p.p c.loop-p-test.true _ _ c.loop-p.invariant.1 c.loop-p.invariant.2 _ _ _ _ _ c.loop-p.invariant.0 c.release_one-word.ensures.due_after c.release_one-word.ensures.value c.earlier-earliest.ensures,
-  left_more c.args.periods.now c.args.costs.now c.args.at.0 c.args.left.now c.args.due.now c.args.first c.args.to c.args.ready c.loop-p.p c.loop-p-test.true _ _ c.loop-p.invariant.1 c.loop-p.invariant.2 _ c.release_one-word.ensures.left_after,
-  due_more c.args.periods.now c.args.costs.now c.args.at.0 c.args.left.now c.args.due.now c.args.first c.args.to c.args.ready c.loop-p.p c.loop-p-test.true _ _ c.loop-p.invariant.1 c.loop-p.invariant.2 _ c.release_one-word.ensures.due_after,
+  releasing_more c.args.tasks.periods.now c.args.tasks.costs.now c.args.at.0 c.args.left.now c.args.due.now c.args.first c.args.to c.args.ready c.loop-p.p c.loop-p-test.true _ _ c.loop-p.invariant.1 c.loop-p.invariant.2 _ _ _ _ _ c.loop-p.invariant.0 c.release_one-word.ensures.due_after c.release_one-word.ensures.value c.min-earliest.ensures,
+  left_more c.args.tasks.periods.now c.args.tasks.costs.now c.args.at.0 c.args.left.now c.args.due.now c.args.first c.args.to c.args.ready c.loop-p.p c.loop-p-test.true _ _ c.loop-p.invariant.1 c.loop-p.invariant.2 _ c.release_one-word.ensures.left_after,
+  due_more c.args.tasks.periods.now c.args.tasks.costs.now c.args.at.0 c.args.left.now c.args.due.now c.args.first c.args.to c.args.ready c.loop-p.p c.loop-p-test.true _ _ c.loop-p.invariant.1 c.loop-p.invariant.2 _ c.release_one-word.ensures.due_after,
 )
