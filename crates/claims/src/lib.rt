@@ -23,7 +23,6 @@ use reading::{
     LARGE_BYTES, LARGE_ROOM, LARGE_WORDS, SMALL_BYTES, SMALL_ROOM, SMALL_WORDS, is_large,
 };
 use response::{Told, find_blocking, pack};
-use tables::fields::count;
 use tables::{ONE_PERIOD, Refusal, TASK_COUNT_AT};
 
 // What is said of a list of claims.
@@ -86,7 +85,7 @@ fn check_in(
     if let Err(refusal) = found {
         return Claimed::Refused(refusal);
     }
-    let n = count(table[TASK_COUNT_AT]);
+    let n = usize::from(table[TASK_COUNT_AT]);
     if claims.len() != n {
         return Claimed::WrongCount;
     }
@@ -107,7 +106,7 @@ fn check_table(
     requires table_held { TableHeld 1 table.now (record_columns room bytes.now words.now) (row_columns room bytes.now words.now) }
     ensures { Checked table.now claims.now result }
 {
-    let n = count(table[TASK_COUNT_AT]);
+    let n = usize::from(table[TASK_COUNT_AT]);
     find_blocking(table, room, bytes, words, held);
     // of the words: periods, costs, deadlines, spreads, latest delays
     let tasks = Tasks {

@@ -20,7 +20,6 @@ use reading::{
     LARGE_BYTES, LARGE_ROOM, LARGE_WORDS, SMALL_BYTES, SMALL_ROOM, SMALL_WORDS, any_delay, is_large,
 };
 use response::Verdict;
-use tables::fields::count;
 use tables::{HEAD_SIZE, ONE_PERIOD, ROW_COUNT_AT, Refusal, TASK_COUNT_AT, VERSION_AT};
 use ticking::{largest, play_all};
 
@@ -94,7 +93,7 @@ fn play_columns(
     requires zeros { Zeros left.old (task_count table.now) × Zeros due.old (task_count table.now) }
     ensures { Played table.now answers.old result answers.new }
 {
-    let n = count(table[TASK_COUNT_AT]);
+    let n = usize::from(table[TASK_COUNT_AT]);
     if answers.len() < n {
         return Verdict::Refused(Refusal::NoRoom);
     }

@@ -2,8 +2,6 @@
 // A slice holds plain u32 or u8; a single value is one of these, and crossing from one to another is written out.
 #![tactic(auto)]
 
-ghost use Rattle.std.specs.Prelude.{◌≡◌, max};
-
 #[derive(Clone, Copy, Debug, PartialEq, Eq, PartialOrd, Ord)]
 pub struct Ticks(pub u32);
 
@@ -15,9 +13,3 @@ pub struct Place(pub usize);
 
 // What an answer slice has for a task that is open: no response time is as long (SPECIFICATION 13.8; document 02, L8).
 pub const OPEN: u32 = 4294967295;
-
-pub fn larger(a: Ticks, b: Ticks) -> Ticks
-    ensures { result.0 ≡ max a.0 b.0 }
-{
-    if a.0 < b.0 { b } else { a }
-}

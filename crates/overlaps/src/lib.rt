@@ -26,7 +26,6 @@ use reading::{
     SMALL_WORDS, any_delay, is_large,
 };
 use response::{Told, find_blocking, has_room, pack};
-use tables::fields::count;
 use tables::{FOUR_PERIODS, Refusal, TASK_COUNT_AT};
 
 // What is said of a table.
@@ -99,7 +98,7 @@ fn analyse_in(
     if let Err(refusal) = checked {
         return Found::Refused(refusal);
     }
-    let n = count(table[TASK_COUNT_AT]);
+    let n = usize::from(table[TASK_COUNT_AT]);
     if !has_room(n, answers.len(), tried.len()) {
         return Found::Refused(Refusal::NoRoom);
     }
@@ -126,7 +125,7 @@ fn find(
     requires table_held { TableHeld 4 table.now (record_columns room bytes.now words.now) (row_columns room bytes.now words.now) × (is_calm table.now ≡ true) }
     ensures { PastOutcome (lending table.now answers.old tried.old) (leaving result answers.new tried.new) }
 {
-    let n = count(table[TASK_COUNT_AT]);
+    let n = usize::from(table[TASK_COUNT_AT]);
     find_blocking(table, room, bytes, words, held);
     // of the words: periods, costs, deadlines, spreads, latest delays
     let tasks = Tasks {

@@ -22,7 +22,6 @@ use reading::{
     LARGE_BYTES, LARGE_MARKS, LARGE_ROOM, LARGE_WORDS, ROW_ROOM, SMALL_BYTES, SMALL_MARKS,
     SMALL_ROOM, SMALL_WORDS, is_large,
 };
-use tables::fields::count;
 use tables::{ONE_PERIOD, ROW_COUNT_AT, Refusal, TASK_COUNT_AT};
 
 // What is told as two numbers: which case it is, and the place that the case has, or 0.
@@ -139,7 +138,7 @@ fn analyse_in(
     if let Err(refusal) = found {
         return Verdict::Refused(refusal);
     }
-    let n = count(table[TASK_COUNT_AT]);
+    let n = usize::from(table[TASK_COUNT_AT]);
     if !has_room(n, answers.len(), rounds.len()) {
         return Verdict::Refused(Refusal::NoRoom);
     }
@@ -165,8 +164,8 @@ pub fn find_blocking(table: &[u8], room: usize, bytes: &[u8], words: &[u32], hel
     requires zeros { Zeros held.old (task_count table.now) }
     ensures { held.new ≡ filled (blocking_of (table_of table.now)) (task_count table.now) held.old }
 {
-    let n = count(table[TASK_COUNT_AT]);
-    let m = count(table[ROW_COUNT_AT]);
+    let n = usize::from(table[TASK_COUNT_AT]);
+    let m = usize::from(table[ROW_COUNT_AT]);
     // the priorities are the first bytes
     let places = &bytes[room..room + ROW_ROOM];
     let semaphores = &bytes[room + ROW_ROOM..room + 2 * ROW_ROOM];
@@ -193,7 +192,7 @@ fn answer(
     requires table_held { TableHeld 1 table.now (record_columns room bytes.now words.now) (row_columns room bytes.now words.now) }
     ensures { Outcome start (lending table.now answers.old rounds.old) (leaving result answers.new rounds.new) }
 {
-    let n = count(table[TASK_COUNT_AT]);
+    let n = usize::from(table[TASK_COUNT_AT]);
     find_blocking(table, room, bytes, words, held);
     // of the words: periods, costs, deadlines, spreads, latest delays
     let tasks = Tasks {

@@ -1,21 +1,7 @@
 // Single fields: unsigned and big-endian.
-ghost use Rattle.std.specs.Prelude.{◌≡◌, ◌+◌, ◌≤◌, ◌<◌, length};
+ghost use Rattle.std.specs.Prelude.{◌≡◌, ◌+◌, ◌≤◌, length};
 ghost use Rattle.tables.specs.Layout.{word_at, half_at};
 ghost use Rattle.tables.specs.Rules.{between};
-
-// A byte as a number, with its range.
-pub fn wide(byte: u8) -> u32
-    ensures { (result ≡ byte) × (result < 256) }
-{
-    u32::from(byte)
-}
-
-// A byte as an index or a count, with its range.
-pub fn count(byte: u8) -> usize
-    ensures { (result ≡ byte) × (result < 256) }
-{
-    usize::from(byte)
-}
 
 // The two bytes from `at` on.
 pub fn half(table: &[u8], at: usize) -> u32

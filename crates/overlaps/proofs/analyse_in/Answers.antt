@@ -16,11 +16,11 @@ pub bounds-table-3 : goal.bounds-table-3
 bounds-table-3 c = omega (arith, (head_right _ c.requires.table_value).long_enough)
 
 pub returns-then-not-has_room : goal.returns-then-not-has_room
-returns-then-not-has_room c = no_room _ _ _ (sym c.read-checked.ensures.value ∙ c.in_default.is) _ c.count-n.ensures.0 ((sym c.has_room.ensures ∙ c.if-not-has_room.true))
+returns-then-not-has_room c = no_room _ _ _ (sym c.read-checked.ensures.value ∙ c.in_default.is) _ c.from-n.ensures ((sym c.has_room.ensures ∙ c.if-not-has_room.true))
 
 pub returns-then-any_delay : goal.returns-then-any_delay
 returns-then-any_delay c = let held = held_cut _ _ _ (table_held _ _ _ _ _ c.requires.lent _ (c.read-checked.ensures.value, (c.read-checked.ensures.filled, c.read-checked.ensures.filled_2)) c.in_default.is) in
-    delayed _ _ _ held.clean _ c.count-n.ensures.0 (room_is _ _ _ _ c.count-n.ensures.0 ((sym c.has_room.ensures ∙ c.if-not-has_room.false))) (some_delay _ _ _ held _ c.count-n.ensures.0 (sym c.any_delay.ensures ∙ c.if-any_delay.true))
+    delayed _ _ _ held.clean _ c.from-n.ensures (room_is _ _ _ _ c.from-n.ensures ((sym c.has_room.ensures ∙ c.if-not-has_room.false))) (some_delay _ _ _ held _ c.from-n.ensures (sym c.any_delay.ensures ∙ c.if-any_delay.true))
 
 pub find-requires : goal.find-requires
-find-requires c = let held = table_held _ _ _ _ _ c.requires.lent _ (c.read-checked.ensures.value, (c.read-checked.ensures.filled, c.read-checked.ensures.filled_2)) c.in_default.is in record { lent = lent_again c.requires.lent c.read-checked.auto.bytes c.read-checked.auto.words; zeros = c.requires.zeros; table_in_bounds = room_is _ _ _ _ c.count-n.ensures.0 ((sym c.has_room.ensures ∙ c.if-not-has_room.false)); table_held = (held, no_delay _ _ _ (held_cut _ _ _ held) _ c.count-n.ensures.0 (sym c.any_delay.ensures ∙ c.if-any_delay.false)) }
+find-requires c = let held = table_held _ _ _ _ _ c.requires.lent _ (c.read-checked.ensures.value, (c.read-checked.ensures.filled, c.read-checked.ensures.filled_2)) c.in_default.is in record { lent = lent_again c.requires.lent c.read-checked.auto.bytes c.read-checked.auto.words; zeros = c.requires.zeros; table_in_bounds = room_is _ _ _ _ c.from-n.ensures ((sym c.has_room.ensures ∙ c.if-not-has_room.false)); table_held = (held, no_delay _ _ _ (held_cut _ _ _ held) _ c.from-n.ensures (sym c.any_delay.ensures ∙ c.if-any_delay.false)) }

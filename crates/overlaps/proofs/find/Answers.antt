@@ -11,9 +11,9 @@ bounds-table-3 c = omega (arith, (held_right c.requires.table_held.0).head.long_
 
 pub find_all-requires : goal.find_all-requires
 find_all-requires c = let held = held_cut _ _ _ c.requires.table_held.0 in
-    let ranks = ranks_held_law c.requires.lent c.requires.table_held.0 in record { decoded_fits = decoded_fits _ _ _ held _ ranks _ c.count-n.ensures.0 _ _ (omega (arith, c.requires.zeros.0.long, c.count-n.ensures.0)) c.find_blocking.ensures; periods_high = (periods_high _ _ _ held _ ranks _ c.count-n.ensures.0, omega (arith, c.requires.zeros.1, c.count-n.ensures.0)); n_in_bounds = room_for c.count-n.ensures.0 c.requires.table_in_bounds }
+    let ranks = ranks_held_law c.requires.lent c.requires.table_held.0 in record { decoded_fits = decoded_fits _ _ _ held _ ranks _ c.from-n.ensures _ _ (omega (arith, c.requires.zeros.0.long, c.from-n.ensures)) c.find_blocking.ensures; periods_high = (periods_high _ _ _ held _ ranks _ c.from-n.ensures, omega (arith, c.requires.zeros.1, c.from-n.ensures)); n_in_bounds = room_for c.from-n.ensures c.requires.table_in_bounds }
 
 pub returns : goal.returns
 returns c = let held = held_cut _ _ _ c.requires.table_held.0 in
     let ranks = ranks_held_law c.requires.lent c.requires.table_held.0 in
-    table_found _ _ _ held _ c.count-n.ensures.0 _ ranks _ _ (omega (arith, c.requires.zeros.0.long, c.count-n.ensures.0)) c.find_blocking.ensures held.clean c.requires.table_held.1 _ _ c.requires.table_in_bounds _ _ _ c.find_all.ensures
+    table_found _ _ _ held _ c.from-n.ensures _ ranks _ _ (omega (arith, c.requires.zeros.0.long, c.from-n.ensures)) c.find_blocking.ensures held.clean c.requires.table_held.1 _ _ c.requires.table_in_bounds _ _ _ c.find_all.ensures

@@ -12,7 +12,7 @@ pub bounds-table-4 : goal.bounds-table-4
 bounds-table-4 c = omega (arith, (held_right c.requires.by_index.1).head.long_enough)
 
 pub blocking-requires : goal.blocking-requires
-blocking-requires c = record { rows_held = rows_held _ _ _ (held_cut _ _ _ c.requires.by_index.1) _ (ranks_held_law c.requires.lent c.requires.by_index.1) _ c.count-n.ensures.0 _ c.count-m.ensures.0; zeros = rw c.count-n.ensures.0 c.requires.zeros }
+blocking-requires c = record { rows_held = rows_held _ _ _ (held_cut _ _ _ c.requires.by_index.1) _ (ranks_held_law c.requires.lent c.requires.by_index.1) _ c.from-n.ensures _ c.from-m.ensures; zeros = rw c.from-n.ensures c.requires.zeros }
 
 pub returns : goal.returns
-returns c = blocking_found _ _ _ (held_cut _ _ _ c.requires.by_index.1) _ (ranks_held_law c.requires.lent c.requires.by_index.1) _ c.count-n.ensures.0 _ c.count-m.ensures.0 _ _ c.blocking.ensures
+returns c = blocking_found _ _ _ (held_cut _ _ _ c.requires.by_index.1) _ (ranks_held_law c.requires.lent c.requires.by_index.1) _ c.from-n.ensures _ c.from-m.ensures _ _ c.blocking.ensures
