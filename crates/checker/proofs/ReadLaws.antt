@@ -15,20 +15,19 @@ use Rattle.scanning.proofs.PieceLaws.{kept_long, pieces_right}
 use Rattle.checking.specs.Text.{check_text}
 use Rattle.checking.specs.Pieces.{words_kept, line_after}
 use Rattle.checking.proofs.ListLaws.{any_pieces}
-use Rattle.checker.specs.declared.Step.{Step}
-use Rattle.checker.specs.declared.Step.TheVariants as step
+use Rattle.std.proofs.Common.{ControlFlow, Break, Continue}
 use Rattle.checker.specs.Lists.{Behind, step_for, Taken, LineOfText}
 
 -- what stands in a step, and whether it goes on
-abbrev scan_of : Step → Scan
-scan_of (step.Ended scan) = scan
-scan_of (step.More scan) = scan
+abbrev scan_of : ControlFlow Scan Scan → Scan
+scan_of (Break scan) = scan
+scan_of (Continue scan) = scan
 
-abbrev goes_on : Step → ℕ
-goes_on (step.Ended scan) = 0
-goes_on (step.More scan) = 1
+abbrev goes_on : ControlFlow Scan Scan → ℕ
+goes_on (Break scan) = 0
+goes_on (Continue scan) = 1
 
-scan_on : (b : Bool) (scan : Scan) → scan_of (pick b (step.Ended scan) (step.More scan)) ≡ scan
+scan_on : (b : Bool) (scan : Scan) → scan_of (pick b (Break scan) (Continue scan)) ≡ scan
 scan_on true scan = refl
 scan_on false scan = refl
 
@@ -44,24 +43,24 @@ step_some scan [] e = absurd (omega (arith, e))
 step_some scan (byte ∷ rest) e = omega arith
 
 -- what `take_in` promises
-pub taken_none : {scan : Scan} {piece words : List ℕ} → length piece ≡ 0 → Taken scan piece words (step.Ended scan) words
+pub taken_none : {scan : Scan} {piece words : List ℕ} → length piece ≡ 0 → Taken scan piece words (Break scan) words
 unfolding step_for ended_in
 taken_none {scan} {piece} {words} h = go piece h
   where
-    go : (piece : List ℕ) → length piece ≡ 0 → Taken scan piece words (step.Ended scan) words
+    go : (piece : List ℕ) → length piece ≡ 0 → Taken scan piece words (Break scan) words
     go [] h = record { result_is = refl; words_are = refl }
     go (byte ∷ rest) h = absurd (omega (arith, h))
 
 module _ {scan next : Scan} {piece words new : List ℕ} (m : More scan piece words next new) where
   -- behind bytes the step is told by the test
   some_step : (piece : List ℕ) → 0 < length piece →
-      step_for scan piece ≡ pick (stuck (scan_after scan piece).state) (step.Ended (scan_after scan piece)) (step.More (scan_after scan piece))
+      step_for scan piece ≡ pick (stuck (scan_after scan piece).state) (Break (scan_after scan piece)) (Continue (scan_after scan piece))
   unfolding step_for
   some_step [] h = absurd (omega (arith, h))
   some_step (byte ∷ rest) h = refl
 
   pub taken_some : {test : Bool} → 0 < length piece → test ≡ stuck next.state →
-      Taken scan piece words (pick test (step.Ended next) (step.More next)) new
+      Taken scan piece words (pick test (Break next) (Continue next)) new
   taken_some h e = record { result_is = rw (e, m.scan_is) (sym (some_step piece h)); words_are = m.words_are }
 
 -- how far the scan is, is how long the text is
@@ -128,17 +127,17 @@ module _ {words piece : List ℕ} {scan : Scan} (s : Sofar words piece scan) (lo
     sofar_fits =
         let w = behind_within s.behind in record { few = w.few; placed = w.placed; most = omega (arith, low, few) }
 
-    module _ {new : List ℕ} {result : Step} (t : Taken scan (take taken filled) words result new) where
+    module _ {new : List ℕ} {result : ControlFlow Scan Scan} (t : Taken scan (take taken filled) words result new) where
       told : {next : Scan} → scan_of result ≡ next → next ≡ scan_after scan (take taken filled)
       told e = sym e ∙ ap scan_of t.result_is ∙ step_scan scan (take taken filled)
 
       behind_told : {next : Scan} → scan_of result ≡ next → Behind next new
       behind_told e = behind_more s.behind (take taken filled) (omega (arith, low, few)) (told e) t.words_are
 
-      pub sofar_last : {last : Scan} → result ≡ step.Ended last → Behind last new
+      pub sofar_last : {last : Scan} → result ≡ Break last → Behind last new
       sofar_last e = behind_told (ap scan_of e)
 
-      pub sofar_more : {next : Scan} → result ≡ step.More next → Sofar new filled next
+      pub sofar_more : {next : Scan} → result ≡ Continue next → Sofar new filled next
       sofar_more e =
           record {
             behind = behind_told (ap scan_of e);
@@ -146,7 +145,7 @@ module _ {words piece : List ℕ} {scan : Scan} (s : Sofar words piece scan) (lo
             room = same ∙ s.room;
           }
 
-      pub sofar_less : {next : Scan} → result ≡ step.More next →
+      pub sofar_less : {next : Scan} → result ≡ Continue next →
           9223372036854775808 - next.at.0 < 9223372036854775808 - scan.at.0
       sofar_less e =
           let some = step_some scan (take taken filled) (ap goes_on (sym t.result_is ∙ e)) in

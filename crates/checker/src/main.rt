@@ -11,29 +11,28 @@ ghost use Rattle.checker.specs.Lists.{Behind, list_read, Taken};
 use scanning::Scan;
 use std::env::{Env, FillError};
 use std::fs::File;
-use std::io::{Error, Read, Result};
+use std::io::{self, Error, Read};
+use std::ops::ControlFlow;
 use streams::{fail, read_full};
 
 // 2^63: a proved loop has to end, and the system counts the bytes of a file in 63 bits.
 const MOST_TEXT: usize = 9223372036854775808;
 
-// The list's text, gone through, or why it was not.
+// Why the list's text was not gone through.
 #[derive(Clone, Copy)]
-enum List {
+enum Unread {
     // a read failed
     Failed(Error),
     TooLong,
-    Gone(Scan),
 }
 
-// Behind what a read gave: the list is gone through, or goes on.
-#[derive(Clone, Copy)]
-enum Step {
-    Ended(Scan),
-    More(Scan),
+impl From<Error> for Unread {
+    fn from(error: Error) -> Unread {
+        Unread::Failed(error)
+    }
 }
 
-fn main(rt: HostRuntime) -> Result<()> {
+fn main(rt: HostRuntime) -> io::Result<()> {
     let mut name = [0u8; 4096];
     match rt.arg(1, &mut name) {
         Ok(length) => check_named(rt, &name[..length]),
@@ -43,7 +42,7 @@ fn main(rt: HostRuntime) -> Result<()> {
 }
 
 // Opens the file of that name, which the library takes as text alone.
-fn check_named(rt: HostRuntime, name: &[u8]) -> Result<()> {
+fn check_named(rt: HostRuntime, name: &[u8]) -> io::Result<()> {
     let Ok(path) = str::from_utf8(name) else {
         return say(
             rt,
@@ -57,62 +56,58 @@ fn check_named(rt: HostRuntime, name: &[u8]) -> Result<()> {
 }
 
 // Reads the list from the file, which has that name.
-fn check_file(rt: HostRuntime, name: &[u8], mut file: File) -> Result<()> {
+fn check_file(rt: HostRuntime, name: &[u8], mut file: File) -> io::Result<()> {
     let mut words = [0u32; checking::WORDS];
-    let list = read_list(&mut file, &mut words);
-    match list {
-        List::Failed(error) => fail(rt, name, error),
-        List::TooLong => say_too_long(rt),
-        List::Gone(scan) => check_input(rt, scan, &mut words),
+    match read_list(&mut file, &mut words) {
+        Ok(scan) => check_input(rt, scan, &mut words),
+        Err(Unread::Failed(error)) => fail(rt, name, error),
+        Err(Unread::TooLong) => say_too_long(rt),
     }
 }
 
 // Goes through the file to its end, piece by piece as it is read, or to something that can't be read.
-fn read_list<F: Read>(file: &mut F, words: &mut [u32]) -> List
+fn read_list<F: Read>(file: &mut F, words: &mut [u32]) -> Result<Scan, Unread>
     requires { length words.old ≡ words_kept }
     ensures { list_read result words.new }
 {
     let mut piece = [0u8; 65536];
     let mut scan = scanning::begin();
     while scan.at.0 < MOST_TEXT {
-        let taken = match file.read(&mut piece) {
-            Ok(count) => count,
-            Err(error) => return List::Failed(error),
-        };
+        let taken = file.read(&mut piece)?;
         match take_in(scan, &piece[..taken], words) {
-            Step::Ended(last) => return List::Gone(last),
-            Step::More(reached) => scan = reached,
+            ControlFlow::Break(last) => return Ok(last),
+            ControlFlow::Continue(reached) => scan = reached,
         }
     }
-    List::TooLong
+    Err(Unread::TooLong)
 }
 
 // The list ends with a read that gives nothing, or where something can't be read, and nowhere else.
-fn take_in(scan: Scan, piece: &[u8], words: &mut [u32]) -> Step
+fn take_in(scan: Scan, piece: &[u8], words: &mut [u32]) -> ControlFlow<Scan, Scan>
     requires { Within scan (length piece.now) }
     ensures { Taken scan piece.now words.old result words.new }
 {
-    if piece.len() == 0 {
-        return Step::Ended(scan);
+    if piece.is_empty() {
+        return ControlFlow::Break(scan);
     }
     let next = scanning::go_on(scan, piece, words);
     if scanning::is_stuck(next) {
-        return Step::Ended(next);
+        return ControlFlow::Break(next);
     }
-    Step::More(next)
+    ControlFlow::Continue(next)
 }
 
 // Nothing is said of a list that was not read whole.
-fn say_too_long(rt: HostRuntime) -> Result<()> {
+fn say_too_long(rt: HostRuntime) -> io::Result<()> {
     say(rt, b"the list has 2^63 bytes or more\n")
 }
 
-fn say(rt: HostRuntime, line: &[u8]) -> Result<()> {
+fn say(rt: HostRuntime, line: &[u8]) -> io::Result<()> {
     rt.stderr().write_all(line)
 }
 
 // Reads the table, and writes what is said of the claims in one call.
-fn check_input(rt: HostRuntime, scan: Scan, words: &mut [u32]) -> Result<()>
+fn check_input(rt: HostRuntime, scan: Scan, words: &mut [u32]) -> io::Result<()>
     requires { Behind scan words.old }
 {
     // one byte more than the longest table

@@ -15,14 +15,13 @@ use Rattle.claims.specs.declared.Claimed.{Claimed}
 use Rattle.claims.specs.Claims.{claimed_of, Checked}
 use Rattle.claims.proofs.ColumnLaws.{read_refused, wrong_count}
 use Rattle.claims.proofs.Claims.{few_tasks_law}
-use Rattle.scanning.specs.declared.TextPlace.{TextPlace}
-use Rattle.scanning.specs.declared.Scanned.{Scanned}
-use Rattle.scanning.specs.declared.Scanned.TheVariants.{Numbers, Unreadable}
+use Rattle.std.specs.Prelude.{Result, Ok, Err}
+use Rattle.scanning.specs.declared.Unreadable.{Unreadable}
 use Rattle.scanning.specs.declared.State.{State}
 use Rattle.scanning.specs.declared.State.TheVariants.{Outside, Inside, Stuck}
 use Rattle.scanning.specs.declared.Scan.{Scan}
 use Rattle.scanning.specs.Reading.{Reading, numbers, unreadable, reading_of}
-use Rattle.scanning.specs.Read.{scanned_for, words_after}
+use Rattle.scanning.specs.Read.{from_byte, scanned_for, words_after}
 use Rattle.scanning.specs.Pieces.{stuck, answer_of, answer_at, words_at, Ended, Gone, gone, all_through}
 use Rattle.scanning.proofs.PieceLaws.{pieces_right}
 use Rattle.checking.specs.Text.{claimed_line, unreadable_line, text_for, check_text}
@@ -43,25 +42,25 @@ same_answer bytes claims =
         ∙ wrong_count bytes claims e (λ same. omega (arith, same, few_tasks_law bytes e))
 
 -- What `check_list` says is the line for what is known behind the last piece.
-module _ {scan : Scan} {words new : List ℕ} {scanned : Scanned} (bytes : List ℕ) (ended : Ended scan words scanned new) where
-  pub list_checked : {count kept : ℕ} {claimed : Claimed} → scanned ≡ Numbers count → kept ≡ min count words_kept →
+module _ {scan : Scan} {words new : List ℕ} {scanned : Result ℕ Unreadable} (bytes : List ℕ) (ended : Ended scan words scanned new) where
+  pub list_checked : {count kept : ℕ} {claimed : Claimed} → scanned ≡ Ok count → kept ≡ min count words_kept →
       Checked bytes (take kept new) claimed → claimed_line claimed ≡ line_after (gone scan words) bytes
   unfolding line_after
   list_checked {count} {kept} {claimed} counted few checked =
       ap claimed_line (checked ∙ ap (λ (k : ℕ). claimed_of bytes (take k new)) few)
-      ∙ ap (λ (s : Scanned). line_for s new bytes) (sym counted ∙ ended.result_is)
+      ∙ ap (λ (s : Result ℕ Unreadable). line_for s new bytes) (sym counted ∙ ended.result_is)
       ∙ ap (λ (xs : List ℕ). line_for (answer_at scan) xs bytes) ended.words_are
 
-  pub list_unreadable : {place : TextPlace} → scanned ≡ Unreadable place → unreadable_line place.0 ≡ line_after (gone scan words) bytes
+  pub list_unreadable : {fault : Unreadable} → scanned ≡ Err fault → unreadable_line fault.0.0 ≡ line_after (gone scan words) bytes
   unfolding line_after
-  list_unreadable {place} is =
-      ap (λ (s : Scanned). line_for s new bytes) (sym is ∙ ended.result_is)
+  list_unreadable {fault} is =
+      ap (λ (s : Result ℕ Unreadable). line_for s new bytes) (sym is ∙ ended.result_is)
       ∙ ap (λ (xs : List ℕ). line_for (answer_at scan) xs bytes) ended.words_are
 
-stuck_told : (state : State) (count : ℕ) → stuck state ≡ true → (place : TextPlace) × (answer_of state count ≡ Unreadable place)
+stuck_told : (state : State) (count : ℕ) → stuck state ≡ true → (fault : Unreadable) × (answer_of state count ≡ Err fault)
 stuck_told Outside count h = let z : ◌≡◌ {A = ℕ} 0 1 = cc (h) in absurd (omega arith)
 stuck_told (Inside from value) count h = let z : ◌≡◌ {A = ℕ} 0 1 = cc (h) in absurd (omega arith)
-stuck_told (Stuck place) count h = (place, refl)
+stuck_told (Stuck place) count h = (from_byte place, refl)
 
 -- And that is the line for the list: the words that are kept stand for all of it.
 module _ (list bytes : List ℕ) (known : Gone) (is : answer_at known.scan ≡ scanned_for (reading_of list)) where

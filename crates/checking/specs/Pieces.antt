@@ -1,9 +1,8 @@
 -- The text of a list may come in pieces: the line is that for their join (SPECIFICATION 10.2).
 -- Assumes nothing.
-use Rattle.std.specs.Prelude.{ℕ, min, ◌≡◌, true, length, take}
+use Rattle.std.specs.Prelude.{ℕ, min, ◌≡◌, Result, Ok, Err, true, length, take}
 use mathlib.Core.List.{List, ◌++◌, flatten}
-use Rattle.scanning.specs.declared.Scanned.{Scanned}
-use Rattle.scanning.specs.declared.Scanned.TheVariants.{Numbers, Unreadable}
+use Rattle.scanning.specs.declared.Unreadable.{Unreadable}
 use Rattle.scanning.specs.Pieces.{stuck, answer_at, words_at, Gone, all_through}
 use Rattle.claims.specs.Claims.{claimed_of}
 use Rattle.checking.specs.Text.{claimed_line, unreadable_line, check_text}
@@ -13,9 +12,9 @@ abbrev pub words_kept : ℕ
 words_kept = 201
 
 -- what is said where so many numbers were found, of which the words hold the first, or where something can't be read
-abbrev pub line_for : Scanned → List ℕ → List ℕ → List ℕ
-line_for (Numbers count) words bytes = claimed_line (claimed_of bytes (take (min count words_kept) words))
-line_for (Unreadable place) words bytes = unreadable_line place.0
+abbrev pub line_for : Result ℕ Unreadable → List ℕ → List ℕ → List ℕ
+line_for (Ok count) words bytes = claimed_line (claimed_of bytes (take (min count words_kept) words))
+line_for (Err fault) words bytes = unreadable_line fault.0.0
 
 -- the line for what is known behind the last piece
 unfoldable pub line_after : Gone → List ℕ → List ℕ

@@ -1,7 +1,7 @@
 // The text of a list of claims and the bytes of a table in, one line of text out (SPECIFICATION 10.2; document 02, L7).
 #![tactic(auto)]
 
-ghost use Rattle.std.specs.Prelude.{min, ◌≡◌, length};
+ghost use Rattle.std.specs.Prelude.{◌≡◌, length};
 ghost use Rattle.printing.specs.Appended.{Appended};
 ghost use Rattle.scanning.specs.Pieces.{Within, words_at, gone};
 ghost use Rattle.checking.specs.Text.{claimed_line, unreadable_line};
@@ -10,7 +10,7 @@ ghost use Rattle.checking.specs.Pieces.{words_kept, line_after};
 use claims::{Claimed, check_claims};
 use printing::{append, line_with_number, refusal_line, verdict_line};
 use response::Verdict;
-use scanning::{Scan, Scanned, TextPlace, finish};
+use scanning::{Scan, TextPlace, Unreadable, finish};
 
 // Bytes enough for any line, and for the longest no more than enough: `longest` of specs/Longest.antt.
 pub const LONGEST: usize = 35;
@@ -26,21 +26,13 @@ pub fn check_list(scan: Scan, words: &mut [u32], table: &[u8], out: &mut [u8]) -
     ensures words_after { words.new ≡ words_at scan words.old }
     ensures appended { Appended out.old 0 (line_after (gone scan words.old) table.now) result out.new }
 {
-    let scanned = finish(scan, words);
-    match scanned {
-        Scanned::Numbers(count) => {
-            let claimed = check_claims(table, &words[..fewer(count, WORDS)]);
+    match finish(scan, words) {
+        Ok(count) => {
+            let claimed = check_claims(table, &words[..count.min(WORDS)]);
             claimed_line(out, 0, claimed)
         }
-        Scanned::Unreadable(place) => unreadable(out, place),
+        Err(Unreadable(place)) => unreadable(out, place),
     }
-}
-
-// The lesser of two counts.
-pub fn fewer(a: usize, b: usize) -> usize
-    ensures { result ≡ min a b }
-{
-    if a < b { a } else { b }
 }
 
 // The line that says what was found of the claims.

@@ -6,11 +6,9 @@
 
 ghost use Rattle.std.specs.Prelude.{◌≤◌, ◌<◌, length};
 
-use checking::fewer;
 use std::fs::File;
 use std::io::Result;
 use streams::{fail, read_full};
-use tables::fields::{count, word};
 
 // Bytes enough for two lines: at most 28 with the entry's number, and the answer's.
 const ROOM: usize = checking::LONGEST + 28;
@@ -24,9 +22,10 @@ fn main(rt: HostRuntime) -> Result<()> {
 
 // A proved loop has to end, and nothing says that a file does. So the loop counts the entries, up to a number that no file reaches.
 fn check_all(rt: HostRuntime, mut file: File) -> Result<()> {
-    let mut number: u64 = 0;
-    while number < u64::MAX && check_next(rt, &mut file, number)? {
-        number += 1;
+    for number in 0..u64::MAX {
+        if !check_next(rt, &mut file, number)? {
+            break;
+        }
     }
     Ok(())
 }
@@ -34,87 +33,40 @@ fn check_all(rt: HostRuntime, mut file: File) -> Result<()> {
 // Reads the lengths of the next entry and checks it; false where the file has ended.
 fn check_next(rt: HostRuntime, file: &mut File, number: u64) -> Result<bool> {
     let mut head = [0u8; 3];
-    let taken = read_full(file, &mut head);
-    if taken < 3 {
+    if read_full(file, &mut head) < 3 {
         return Ok(false);
     }
-    check_entry(
-        rt,
-        file,
-        number,
-        count(head[0]) * 256 + count(head[1]),
-        count(head[2]),
-    )?;
+    let length = u16::from_be_bytes([head[0], head[1]]);
+    check_entry(rt, file, number, length, head[2])?;
     Ok(true)
 }
 
-// Makes room for a table of the length that its entry names.
+// Reads the table and the claims of an entry, or what there is of them, and checks them.
 fn check_entry(
     rt: HostRuntime,
     file: &mut File,
     number: u64,
-    length: usize,
-    claims: usize,
-) -> Result<()>
-    requires length_len_bound { length < 65536 }
-    requires claims_bound { «claims» < 256 }
-{
-    let mut space = [0u8; 65536];
-    read_table(rt, file, number, &mut space[..length], claims)
-}
-
-// Reads the table, or what there is of it.
-fn read_table(
-    rt: HostRuntime,
-    file: &mut File,
-    number: u64,
-    table: &mut [u8],
-    claims: usize,
-) -> Result<()>
-    requires { «claims» < 256 }
-{
-    let taken = read_full(file, table);
-    read_claims(rt, file, number, &table[..taken], claims)
-}
-
-// Makes room for the claims that the entry names.
-fn read_claims(
-    rt: HostRuntime,
-    file: &mut File,
-    number: u64,
-    table: &[u8],
-    claims: usize,
-) -> Result<()>
-    requires { «claims» < 256 }
-{
-    let mut space = [0u8; 1020];
-    take_claims(rt, file, number, table, &mut space[..4 * claims])
-}
-
-// Reads the claims, or what there is of them, and checks them.
-fn take_claims(
-    rt: HostRuntime,
-    file: &mut File,
-    number: u64,
-    table: &[u8],
-    bytes: &mut [u8],
+    length: u16,
+    claims: u8,
 ) -> Result<()> {
-    let taken = read_full(file, bytes);
+    let mut table = [0u8; 65536];
+    let table_end = read_full(file, &mut table[..usize::from(length)]);
+    let mut bytes = [0u8; 1020];
+    let bytes_end = read_full(file, &mut bytes[..4 * usize::from(claims)]);
     let mut words = [0u32; 255];
-    let n = words_of(&bytes[..taken], &mut words);
-    check(rt, number, table, &words[..n])
+    let n = words_of(&bytes[..bytes_end], &mut words);
+    check(rt, number, &table[..table_end], &words[..n])
 }
 
 // The whole words of the bytes, as far as there is room; answers how many.
 fn words_of(bytes: &[u8], words: &mut [u32]) -> usize
-    requires { length words.old ≤ 255 }
     ensures { result ≤ length words.new }
 {
-    let n = fewer(bytes.len() / 4, words.len());
-    for i in 0..n {
-        words[i] = word(bytes, 4 * i);
+    let (chunks, _) = bytes.as_chunks();
+    for (word, chunk) in words.iter_mut().zip(chunks) {
+        *word = u32::from_be_bytes(*chunk);
     }
-    n
+    words.len().min(chunks.len())
 }
 
 // Checks one list, and writes what is said of it in one call.

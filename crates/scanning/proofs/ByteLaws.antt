@@ -6,9 +6,16 @@ use mathlib.Core.Path.{◌≡◌, sym, ◌∙◌}
 use mathlib.Core.Bool.{Bool, true, false}
 use mathlib.Core.Logic.{inl, inr}
 use lib.Dec.{leb}
+use Rattle.std.specs.Char.{is_ascii_digit}
+use Rattle.std.proofs.lemmas.Bool.Decides.{nat_tests}
 use borrow.Author.Tests.{le-leb, leb-true, ne_eqb}
 use Rattle.model.proofs.Tests.{bool?, clash, both_true, both_pass}
 use Rattle.scanning.specs.Reading.{is_digit, is_separator}
+
+-- the library's test of a digit
+pub digit_same : (byte : ℕ) → is_ascii_digit byte ≡ is_digit byte
+unfolding is_digit
+digit_same byte = grind (arith, nat_tests)
 
 pub digit_range : (byte : ℕ) → is_digit byte ≡ true → (48 ≤ byte) × (byte ≤ 57)
 unfolding is_digit

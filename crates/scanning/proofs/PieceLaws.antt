@@ -13,14 +13,13 @@ use lib.ListN.{length, take, get_or, length-append, length-take}
 use lib.Seq.{sets, take-suc, take_all, length-sets}
 use Rattle.model.proofs.Append.{flatten_append}
 use Rattle.model.proofs.Tests.{bool?}
-use Rattle.scanning.specs.declared.Scanned.{Scanned}
 use Rattle.scanning.specs.declared.State.{State}
 use Rattle.scanning.specs.declared.State.TheVariants.{Outside, Inside, Stuck}
 use Rattle.scanning.specs.declared.Scan.{Scan}
 use Rattle.scanning.specs.Reading.{numbers, largest, is_digit, is_separator, reading_of}
 use Rattle.scanning.specs.Read.{place_at, scanned_for, words_after}
 use Rattle.scanning.specs.Steps.{with_value, after_of, ended_by, Kept}
-use Rattle.scanning.specs.Pieces.{state_after, ended_in, start, scan_after, kept_after, More, behind, Within, stuck, answer_of, answer_at, words_at, Ended, Gone, gone, through, PiecesRight}
+use Rattle.scanning.specs.Pieces.{state_after, ended_in, start, scan_after, kept_after, More, behind, Within, stuck, answer_of, answer_at, words_at, Gone, gone, through, PiecesRight}
 use Rattle.scanning.proofs.WordLaws.{sets_more, sets_all}
 use Rattle.scanning.proofs.StepLaws.{prepend_all, prepend_append, onward, end_of, onward_end, onward_step, answer_is, found_all, ended_few, ended_then}
 
@@ -164,11 +163,6 @@ module _ {scan : Scan} {piece old : List ℕ} {i : ℕ} {state : State} {count :
         scan_is = rw (q, g.state_is, g.count_is, all);
         words_are = rw all at g.words_are;
       }
-
--- and what the end of the text does
-pub finished : {scan : Scan} {old new : List ℕ} {count : ℕ} {result : Scanned} → Kept (ended_by scan.state 32) old scan.count count new →
-    result ≡ answer_of scan.state count → Ended scan old result new
-finished {scan} k e = record { result_is = e ∙ ap (answer_of scan.state) k.result_is; words_are = k.words_are }
 
 -- two pieces, and then any
 scan_append : (scan : Scan) (xs ys : List ℕ) → scan_after (scan_after scan xs) ys ≡ scan_after scan (xs ++ ys)

@@ -4,9 +4,8 @@ use Prim.Native.Nat.{ℕ}
 use native.Mathlib.Omega.{arith}
 use mathlib.Core.Path.{◌≡◌, refl, sym, ◌∙◌, ap}
 use mathlib.Core.List.{List}
-use Rattle.scanning.specs.declared.TextPlace.{TextPlace}
-use Rattle.scanning.specs.declared.Scanned.{Scanned}
-use Rattle.scanning.specs.declared.Scanned.TheVariants.{Numbers, Unreadable}
+use Rattle.std.specs.Prelude.{Result, Ok, Err}
+use Rattle.scanning.specs.declared.Unreadable.{Unreadable}
 use Rattle.scanning.specs.declared.Scan.{Scan}
 use Rattle.scanning.specs.Reading.{Reading, numbers, unreadable, reading_of}
 use Rattle.scanning.specs.Read.{scanned_for, words_after, Read, NoSecondRead}
@@ -16,7 +15,7 @@ use Rattle.scanning.proofs.PieceLaws.{answer_all, keep_all}
 pub no_second_read : NoSecondRead
 no_second_read text old result other new another a b = (a.result_is ∙ sym b.result_is, a.words_are ∙ sym b.words_are)
 
-pub passed : {text old kept new : List ℕ} {first scan : Scan} {result : Scanned} → first ≡ start → More first text old scan kept →
+pub passed : {text old kept new : List ℕ} {first scan : Scan} {result : Result ℕ Unreadable} → first ≡ start → More first text old scan kept →
     Ended scan kept result new → Passed text old result new
 passed {text} {old} {kept} {new} {first} {scan} e m f =
     let here : scan ≡ scan_after start text = m.scan_is ∙ ap (λ (s : Scan). scan_after s text) e in
@@ -28,30 +27,30 @@ passed {text} {old} {kept} {new} {first} {scan} e m f =
           ∙ ap (words_at (scan_after start text)) (m.words_are ∙ ap (λ (s : Scan). kept_after s text old) e);
     }
 
-pass_result : {text old new : List ℕ} {result : Scanned} → Passed text old result new → result ≡ scanned_for (reading_of text)
+pass_result : {text old new : List ℕ} {result : Result ℕ Unreadable} → Passed text old result new → result ≡ scanned_for (reading_of text)
 pass_result {text} p = p.result_is ∙ answer_all text
 
 -- the first pass tells a text that can't be read
-unchanged : (reading : Reading) (place : TextPlace) (old : List ℕ) → Unreadable place ≡ scanned_for reading → old ≡ words_after reading old
-unchanged (numbers values) place old e = let z : ◌≡◌ {A = ℕ} 0 1 = cc in absurd (omega arith)
-unchanged (unreadable at) place old e = refl
+unchanged : (reading : Reading) (fault : Unreadable) (old : List ℕ) → Err fault ≡ scanned_for reading → old ≡ words_after reading old
+unchanged (numbers values) fault old e = let z : ◌≡◌ {A = ℕ} 0 1 = cc in absurd (omega arith)
+unchanged (unreadable at) fault old e = refl
 
-pub read_fault : {text none left old : List ℕ} {result : Scanned} {place : TextPlace} → Passed text none result left →
-    result ≡ Unreadable place → Read text old (Unreadable place) old
-read_fault {text} {none} {left} {old} {result} {place} p e =
+pub read_fault : {text none left old : List ℕ} {result : Result ℕ Unreadable} {fault : Unreadable} → Passed text none result left →
+    result ≡ Err fault → Read text old (Err fault) old
+read_fault {text} {none} {left} {old} {result} {fault} p e =
     record {
       result_is = sym e ∙ pass_result p;
-      words_are = unchanged (reading_of text) place old (sym e ∙ pass_result p);
+      words_are = unchanged (reading_of text) fault old (sym e ∙ pass_result p);
     }
 
 -- and after one that can be read the second pass leaves its numbers
-filled : (reading : Reading) (count : ℕ) (old new : List ℕ) → Numbers count ≡ scanned_for reading →
+filled : (reading : Reading) (count : ℕ) (old new : List ℕ) → Ok count ≡ scanned_for reading →
     ((values : List ℕ) → reading ≡ numbers values → new ≡ words_after (numbers values) old) → new ≡ words_after reading old
 filled (numbers values) count old new e f = f values refl
 filled (unreadable at) count old new e f = let z : ◌≡◌ {A = ℕ} 0 1 = cc in absurd (omega arith)
 
-pub read_all : {text none left old new : List ℕ} {first second : Scanned} {count : ℕ} → Passed text none first left →
-    first ≡ Numbers count → Passed text old second new → Read text old second new
+pub read_all : {text none left old new : List ℕ} {first second : Result ℕ Unreadable} {count : ℕ} → Passed text none first left →
+    first ≡ Ok count → Passed text old second new → Read text old second new
 read_all {text} {none} {left} {old} {new} {first} {second} {count} p e q =
     record {
       result_is = pass_result q;

@@ -2,7 +2,7 @@
 -- Assumes nothing.
 use Prim.Native.Nat.{ℕ, suc, ◌+◌, ◌-◌, ◌*◌, ◌≤◌}
 use native.Mathlib.Omega.{arith}
-use mathlib.Core.Path.{◌≡◌, refl, ◌∙◌, ap}
+use mathlib.Core.Path.{◌≡◌, refl, ap}
 use mathlib.Core.Logic.{inl, inr}
 use mathlib.Core.List.{List, [], ◌∷◌, ◌++◌}
 use lib.Dec.{leb}
@@ -109,9 +109,3 @@ ended_then Outside at byte = omega (arith, ended_one (after_of Outside at byte))
 ended_then (Inside start value) at byte =
     omega (arith, ended_few (Inside start value) byte, ended_one (after_of (Inside start value) at byte))
 ended_then (Stuck place) at byte = omega arith
-
--- the same place and the same value, otherwise written
-pub value_kept : {result : State} {start : TextPlace} {value : ℕ} (place : TextPlace) (same : ℕ) → result ≡ with_value start value →
-    start.0 ≡ place.0 → value ≡ same → result ≡ with_value place same
-value_kept {result} {start} {value} place same e p q =
-    e ∙ ap (λ (n : ℕ). with_value (place_at n) value) p ∙ ap (with_value place) q

@@ -1,15 +1,14 @@
 -- A text that comes in pieces is read as their join, wherever it is cut: also inside of a number.
 -- Assumes nothing.
-use Rattle.std.specs.Prelude.{ℕ, suc, ◌+◌, ◌≤◌, ◌<◌, ◌≡◌, Bool, true, false, length}
+use Rattle.std.specs.Prelude.{ℕ, suc, ◌+◌, ◌≤◌, ◌<◌, ◌≡◌, Result, Ok, Err, Bool, true, false, length}
 use mathlib.Core.List.{List, [], ◌∷◌, ◌++◌, flatten}
 use Rattle.std.proofs.lemmas.List.Edits.{sets}
-use Rattle.scanning.specs.declared.Scanned.{Scanned}
-use Rattle.scanning.specs.declared.Scanned.TheVariants.{Numbers, Unreadable}
+use Rattle.scanning.specs.declared.Unreadable.{Unreadable}
 use Rattle.scanning.specs.declared.State.{State}
 use Rattle.scanning.specs.declared.State.TheVariants.{Outside, Inside, Stuck}
 use Rattle.scanning.specs.declared.Scan.{Scan}
 use Rattle.scanning.specs.Reading.{numbers, reading_of}
-use Rattle.scanning.specs.Read.{place_at, scanned_for, words_after}
+use Rattle.scanning.specs.Read.{place_at, from_byte, scanned_for, words_after}
 use Rattle.scanning.specs.Steps.{after_of, ended_by}
 
 -- the state behind a piece whose first byte stands at the place `at` of the text
@@ -61,24 +60,24 @@ stuck (Inside start value) = false
 stuck (Stuck place) = true
 
 -- what the text holds, once it is gone through, if so many numbers ended
-abbrev pub answer_of : State → ℕ → Scanned
-answer_of Outside count = Numbers count
-answer_of (Inside start value) count = Numbers count
-answer_of (Stuck place) count = Unreadable place
+abbrev pub answer_of : State → ℕ → Result ℕ Unreadable
+answer_of Outside count = Ok count
+answer_of (Inside start value) count = Ok count
+answer_of (Stuck place) count = Err (from_byte place)
 
 -- the text's end ends a number as a blank does
-abbrev pub answer_at : Scan → Scanned
+abbrev pub answer_at : Scan → Result ℕ Unreadable
 answer_at scan = answer_of scan.state (scan.count + length (ended_by scan.state 32))
 
 abbrev pub words_at : Scan → List ℕ → List ℕ
 words_at scan words = sets words scan.count (ended_by scan.state 32)
 
-pub record Ended (scan : Scan) (old : List ℕ) (result : Scanned) (new : List ℕ) : Type 0 where
+pub record Ended (scan : Scan) (old : List ℕ) (result : Result ℕ Unreadable) (new : List ℕ) : Type 0 where
   pub result_is : result ≡ answer_at scan
   pub words_are : new ≡ words_at scan old
 
 -- a whole text as one piece: each word is said, also where something can't be read
-pub record Passed (text old : List ℕ) (result : Scanned) (new : List ℕ) : Type 0 where
+pub record Passed (text old : List ℕ) (result : Result ℕ Unreadable) (new : List ℕ) : Type 0 where
   pub result_is : result ≡ answer_at (scan_after start text)
   pub words_are : new ≡ words_at (scan_after start text) (kept_after start text old)
 

@@ -13,7 +13,8 @@ use Rattle.words.specs.Steps.{heard_in, spot_after}
 use Rattle.typing.specs.declared.State.{State}
 use Rattle.typing.specs.declared.Reader.{Reader}
 use Rattle.typing.specs.Steps.{start, Bounded, memory, memory_after}
-use Rattle.typed.specs.declared.Answer.{Answer}
+use Rattle.std.specs.Prelude.{Result}
+use Rattle.typed.specs.declared.Faulty.{Faulty}
 use Rattle.typed.specs.Answered.{kept_text, end_in, Answered}
 use Rattle.typed.specs.Places.{PlaceAnswered}
 use Rattle.typed.proofs.AnswerLaws.{answer_fits}
@@ -22,7 +23,7 @@ use Rattle.texts.proofs.TextLaws.{behind_none, behind_sized, behind_bounded, beh
 use Rattle.to_bytes.specs.Texts.{Behind, Ended, AnswersText, AnswersPlace}
 
 -- the whole answer, and that it ends within the buffer
-module _ {state : State} {numbers old new : List ℕ} {answer : Answer} (e : Ended state numbers) (room : 4589 ≤ length old)
+module _ {state : State} {numbers old new : List ℕ} {answer : Result ℕ Faulty} (e : Ended state numbers) (room : 4589 ≤ length old)
     (a : Answered state numbers old answer new) where
   whole_kept : Whole old (kept_text state.line state numbers) (end_in answer) new
   whole_kept =
@@ -39,7 +40,7 @@ module _ {state : State} {numbers old new : List ℕ} {answer : Answer} (e : End
   pub answer_within : end_in answer ≤ length new
   answer_within = whole_within whole_kept
 
-pub answers_place : {state : State} {numbers places old new : List ℕ} {place : ℕ} {answer : Answer} →
+pub answers_place : {state : State} {numbers places old new : List ℕ} {place : ℕ} {answer : Result ℕ Faulty} →
     PlaceAnswered state numbers places place old answer new → AnswersPlace state numbers places place old answer new
 answers_place {state} {numbers} {places} {place = place} a =
     record {

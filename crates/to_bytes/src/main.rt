@@ -7,31 +7,35 @@ ghost use Rattle.typed.specs.Answered.{end_in};
 ghost use Rattle.texts.specs.Behind.{Empty};
 ghost use Rattle.to_bytes.specs.Texts.{Behind, After, Ended, text_read, AnswersText, AnswersPlace};
 
-use scanning::Scanned;
 use std::env::{Env, FillError};
-use std::io::{Error, Read, Result};
+use std::io::{self, Error, Read};
 use streams::fail;
 use texts::MOST_TEXT;
-use typed::Answer;
+use typed::Faulty;
 use typing::{Reader, State};
 
-// The text, gone through, or why it was not.
+// Why the text was not gone through.
 #[derive(Clone, Copy)]
-enum Text {
+enum Unread {
+    // a read failed
     Failed(Error),
     TooLong,
-    Gone(Reader),
 }
 
-fn main(rt: HostRuntime) -> Result<()> {
+impl From<Error> for Unread {
+    fn from(error: Error) -> Unread {
+        Unread::Failed(error)
+    }
+}
+
+fn main(rt: HostRuntime) -> io::Result<()> {
     let mut fields = [0u32; typing::FIELDS];
     let mut numbers = [0u32; typing::NUMBERS];
     let mut places = [0u64; typing::PLACES];
-    let text = read_text(&mut rt.stdin(), &mut fields, &mut numbers, &mut places);
-    match text {
-        Text::Failed(error) => fail(rt, b"the text", error),
-        Text::TooLong => say_too_long(rt),
-        Text::Gone(reader) => finish(rt, reader, &mut fields, &mut numbers, &mut places),
+    match read_text(&mut rt.stdin(), &mut fields, &mut numbers, &mut places) {
+        Ok(reader) => finish(rt, reader, &mut fields, &mut numbers, &mut places),
+        Err(Unread::Failed(error)) => fail(rt, b"the text", error),
+        Err(Unread::TooLong) => say_too_long(rt),
     }
 }
 
@@ -41,7 +45,7 @@ fn read_text<I: Read>(
     fields: &mut [u32],
     numbers: &mut [u32],
     places: &mut [u64],
-) -> Text
+) -> Result<Reader, Unread>
     requires { Empty fields.old numbers.old places.old }
     ensures { text_read result fields.new numbers.new places.new }
 {
@@ -49,20 +53,17 @@ fn read_text<I: Read>(
     let mut reader = typing::begin();
     let mut total: usize = 0;
     while total < MOST_TEXT {
-        let taken = match input.read(&mut piece) {
-            Ok(count) => count,
-            Err(error) => return Text::Failed(error),
-        };
+        let taken = input.read(&mut piece)?;
         if taken == 0 {
-            return Text::Gone(reader);
+            return Ok(reader);
         }
         reader = typing::go_on(reader, &piece[..taken], fields, numbers, places);
-        total = total + taken;
+        total += taken;
     }
-    Text::TooLong
+    Err(Unread::TooLong)
 }
 
-fn say_too_long(rt: HostRuntime) -> Result<()> {
+fn say_too_long(rt: HostRuntime) -> io::Result<()> {
     rt.stderr().write_all(b"the text has 2^59 bytes or more\n")
 }
 
@@ -73,11 +74,10 @@ fn finish(
     fields: &mut [u32],
     numbers: &mut [u32],
     places: &mut [u64],
-) -> Result<()>
+) -> io::Result<()>
     requires { Behind reader fields.old numbers.old places.old }
 {
-    let last = typing::take_byte(reader, b'\n', fields, numbers, places);
-    let state = last.state;
+    let state = typing::take_byte(reader, b'\n', fields, numbers, places).state;
     let mut text = [0u8; 4096];
     match rt.arg(1, &mut text) {
         Ok(length) => write_place(rt, &text[..length], state, numbers, places),
@@ -88,7 +88,7 @@ fn finish(
 }
 
 // Writes the table's bytes, or on standard error the line for a text that can't be read.
-fn write_answer(rt: HostRuntime, state: State, numbers: &[u32]) -> Result<()>
+fn write_answer(rt: HostRuntime, state: State, numbers: &[u32]) -> io::Result<()>
     requires { Ended state numbers.now }
 {
     let mut out = [0u8; typed::LONGEST];
@@ -97,7 +97,7 @@ fn write_answer(rt: HostRuntime, state: State, numbers: &[u32]) -> Result<()>
 }
 
 // Puts the whole answer into a buffer that holds any.
-fn respond(state: State, numbers: &[u32], out: &mut [u8]) -> Answer
+fn respond(state: State, numbers: &[u32], out: &mut [u8]) -> Result<usize, Faulty>
     requires ended { Ended state numbers.now }
     requires in_bounds { 4589 ≤ length out.old }
     ensures answers_text { AnswersText state numbers.now out.old result out.new }
@@ -107,19 +107,13 @@ fn respond(state: State, numbers: &[u32], out: &mut [u8]) -> Answer
 }
 
 // Writes what was asked for to standard output, and what is wrong to standard error.
-fn send(rt: HostRuntime, answer: Answer, out: &[u8]) -> Result<()>
+fn send(rt: HostRuntime, answer: Result<usize, Faulty>, out: &[u8]) -> io::Result<()>
     requires { end_in answer ≤ length out.now }
 {
     match answer {
-        Answer::Bytes(end) => write(&rt.stdout(), out, end),
-        Answer::Faulty(end) => write(&rt.stderr(), out, end),
+        Ok(end) => rt.stdout().write_all(&out[..end]),
+        Err(Faulty(end)) => rt.stderr().write_all(&out[..end]),
     }
-}
-
-fn write<P: Print>(to: &P, out: &[u8], end: usize) -> Result<()>
-    requires { end ≤ length out.now }
-{
-    to.write_all(&out[..end])
 }
 
 // Writes the line of the place that is asked for.
@@ -129,18 +123,17 @@ fn write_place(
     state: State,
     numbers: &[u32],
     places: &[u64],
-) -> Result<()>
+) -> io::Result<()>
     requires { After state numbers.now places.now }
 {
     let mut words = [0u32; 1];
-    let scanned = scanning::numbers(text, &mut words);
-    match scanned {
-        Scanned::Numbers(count) => say_place(rt, count, words[0], state, numbers, places),
-        Scanned::Unreadable(_) => say_no_place(rt),
+    match scanning::numbers(text, &mut words) {
+        Ok(1) => say_place(rt, words[0], state, numbers, places),
+        _ => say_no_place(rt),
     }
 }
 
-fn say_no_place(rt: HostRuntime) -> Result<()> {
+fn say_no_place(rt: HostRuntime) -> io::Result<()> {
     rt.stderr()
         .write_all(b"the argument is not a place: one whole number\n")
 }
@@ -148,17 +141,13 @@ fn say_no_place(rt: HostRuntime) -> Result<()> {
 // Says in which line the field stands; a text that can't be read has none.
 fn say_place(
     rt: HostRuntime,
-    count: usize,
     place: u32,
     state: State,
     numbers: &[u32],
     places: &[u64],
-) -> Result<()>
+) -> io::Result<()>
     requires { After state numbers.now places.now }
 {
-    if count != 1 {
-        return say_no_place(rt);
-    }
     let mut out = [0u8; typed::LONGEST];
     let answer = respond_place(state, numbers, places, place as usize, &mut out);
     send(rt, answer, &out)
@@ -171,7 +160,7 @@ fn respond_place(
     places: &[u64],
     place: usize,
     out: &mut [u8],
-) -> Answer
+) -> Result<usize, Faulty>
     requires { After state numbers.now places.now }
     ensures answers_place { AnswersPlace state numbers.now places.now place out.old result out.new }
     ensures result_in_bounds { end_in result ≤ length out.new }

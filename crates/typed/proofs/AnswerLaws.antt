@@ -31,8 +31,8 @@ use Rattle.typing.proofs.KeptLaws.{typed_kept}
 use Rattle.typing.proofs.MemoryLaws.{sized_after}
 use Rattle.typed.specs.Bytes.{low_task_at, low_row_at, low_task, low_row, version_kept, Roomy, table_kept, bytes_kept}
 use Rattle.typed.specs.Messages.{message_of, fault_line}
-use Rattle.typed.specs.declared.Answer.{Answer}
-use Rattle.typed.specs.declared.Answer.TheVariants.{Bytes, Faulty}
+use Rattle.std.specs.Prelude.{Result, Ok, Err}
+use Rattle.typed.specs.declared.Faulty.{Faulty}
 use Rattle.typed.specs.Answered.{text_for, is_faulty, kept_text, is_wrong, end_in, says_faulty, NoSecondAnswer, TextAnswered, AnswerFits}
 
 -- what fits into a byte is its own lowest byte
@@ -186,11 +186,11 @@ answer_fits (Filling kind count) state numbers r small = bytes_long state.counts
 answer_fits (Wrong fault) state numbers r small = fault_long state.number fault small
 
 -- an answer is told by which of both it is and where it ends
-told : (answer other : Answer) → says_faulty answer ≡ says_faulty other → end_in answer ≡ end_in other → answer ≡ other
-told (Bytes end) (Bytes last) p q = ap Bytes q
-told (Bytes end) (Faulty last) p q = absurd (clash true refl (sym p))
-told (Faulty end) (Bytes last) p q = absurd (clash true refl p)
-told (Faulty end) (Faulty last) p q = ap Faulty q
+told : (answer other : Result ℕ Faulty) → says_faulty answer ≡ says_faulty other → end_in answer ≡ end_in other → answer ≡ other
+told (Ok end) (Ok last) p q = ap Ok q
+told (Ok end) (Err last) p q = absurd (clash true refl (sym p))
+told (Err end) (Ok last) p q = absurd (clash true refl p)
+told (Err end) (Err last) p q = ap (λ (n : ℕ). Err (record { 0 = n })) q
 
 pub no_second_answer : NoSecondAnswer
 no_second_answer state numbers old answer other new another a b =

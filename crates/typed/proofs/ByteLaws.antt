@@ -1,12 +1,13 @@
 -- The bytes of one record and one row, one after the other.
 -- Assumes nothing.
-use Prim.Native.Nat.{ℕ, ◌+◌, ◌*◌, ◌%◌, ◌≤◌}
+use Prim.Native.Nat.{ℕ, ◌+◌, ◌*◌, ◌/◌, ◌%◌, ◌≤◌, ◌<◌}
 use native.Mathlib.Nat.{mul-le-mul}
 use native.Mathlib.Omega.{arith}
-use mathlib.Core.Path.{◌≡◌, refl}
+use mathlib.Core.Path.{◌≡◌, refl, ap}
 use mathlib.Core.List.{List, [], ◌∷◌, ◌++◌}
 use mathlib.Core.Logic.{inl, inr}
 use lib.Dec.{eqb}
+use Rattle.std.specs.Int.{to_be_bytes, w32}
 use Rattle.model.specs.Lists.{tabulate}
 use Rattle.model.proofs.Lists.{length_tabulate}
 use Rattle.model.proofs.Tests.{bool?}
@@ -18,6 +19,12 @@ use Rattle.encoding.specs.Bytes.{four_bytes, record_bytes, row_bytes, joined}
 use Rattle.typing.specs.declared.lines.Counts.{Counts}
 use Rattle.typing.specs.Kept.{number_at}
 use Rattle.typed.specs.Bytes.{low_task_at, low_row_at, low_task, low_row, delays_of, head_kept, version_kept, bytes_kept}
+
+-- the library's bytes of a number
+pub word_bytes : (n : ℕ) → n < 4294967296 → to_be_bytes w32 n ≡ four_bytes n
+word_bytes n h =
+    let top : n / 16777216 % 256 ≡ n / 16777216 = omega (arith, h) in
+    ap (λ (byte : ℕ). byte ∷ n / 65536 % 256 ∷ n / 256 % 256 ∷ n % 256 ∷ []) top
 
 -- a record's numbers, as the code puts them one behind another
 abbrev pub record_in : DelayFields → (priority period cost deadline earliest latest : ℕ) → List ℕ

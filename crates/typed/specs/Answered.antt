@@ -1,7 +1,7 @@
 -- What is answered to a text: the bytes of the table that it is read as, or the line for its first fault (SPECIFICATION 14.3 and 14.4). The
 -- proofs are in proofs/AnswerLaws.antt.
 -- Assumes nothing.
-use Rattle.std.specs.Prelude.{ℕ, ◌≤◌, ◌<◌, ◌≡◌, Bool, true, false, List, length}
+use Rattle.std.specs.Prelude.{ℕ, ◌≤◌, ◌<◌, ◌≡◌, Result, Ok, Err, Bool, true, false, List, length}
 use Rattle.printing.specs.Appended.{Appended}
 use Rattle.words.specs.Words.{events_of}
 use Rattle.typing.specs.declared.lines.Line.{Line}
@@ -9,8 +9,7 @@ use Rattle.typing.specs.declared.lines.Line.TheVariants.{Blank, Filling, Wrong}
 use Rattle.typing.specs.declared.State.{State}
 use Rattle.typing.specs.Reading.{Reading, given, faulty, reading_of, bytes_typed}
 use Rattle.typing.specs.Kept.{kept_behind, Ready}
-use Rattle.typed.specs.declared.Answer.{Answer}
-use Rattle.typed.specs.declared.Answer.TheVariants.{Bytes, Faulty}
+use Rattle.typed.specs.declared.Faulty.{Faulty}
 use Rattle.typed.specs.Bytes.{Roomy, bytes_kept}
 use Rattle.typed.specs.Messages.{fault_line}
 
@@ -35,22 +34,22 @@ is_wrong (Filling kind count) = false
 is_wrong (Wrong fault) = true
 
 -- the answer says which of both it is, and where it ends
-abbrev pub end_in : Answer → ℕ
-end_in (Bytes end) = end
-end_in (Faulty end) = end
+abbrev pub end_in : Result ℕ Faulty → ℕ
+end_in (Ok end) = end
+end_in (Err fault) = fault.0
 
-abbrev pub says_faulty : Answer → Bool
-says_faulty (Bytes end) = false
-says_faulty (Faulty end) = true
+abbrev pub says_faulty : Result ℕ Faulty → Bool
+says_faulty (Ok end) = false
+says_faulty (Err fault) = true
 
-pub record Answered (state : State) (numbers old : List ℕ) (answer : Answer) (new : List ℕ) : Type 0 where
+pub record Answered (state : State) (numbers old : List ℕ) (answer : Result ℕ Faulty) (new : List ℕ) : Type 0 where
   pub fault_is : says_faulty answer ≡ is_wrong state.line
   pub text_is : Appended old 0 (kept_text state.line state numbers) (end_in answer) new
 
 -- No second answer satisfies it: which of both it is, where it ends, and each byte of the buffer are determined.
 abbrev pub NoSecondAnswer : Type 0
 NoSecondAnswer =
-    (state : State) (numbers old : List ℕ) (answer other : Answer) (new another : List ℕ) →
+    (state : State) (numbers old : List ℕ) (answer other : Result ℕ Faulty) (new another : List ℕ) →
     Answered state numbers old answer new → Answered state numbers old other another → (answer ≡ other) × (new ≡ another)
 
 -- For any text. The slices for numbers and lines may have held anything before, but for the version's line; the fields of a line begin at 0.

@@ -1,7 +1,7 @@
 -- Which field stands at a byte of the table that is typed, and in which line of its text (SPECIFICATION 14.6). The proof is in
 -- proofs/PlaceLaws.antt.
 -- Assumes nothing.
-use Rattle.std.specs.Prelude.{ℕ, ◌-◌, ◌*◌, ◌/◌, ◌%◌, ◌<◌, ◌≡◌, List, ◌++◌, eqb, ltb, length, get_or}
+use Rattle.std.specs.Prelude.{ℕ, ◌-◌, ◌*◌, ◌/◌, ◌%◌, ◌<◌, ◌≡◌, Result, List, ◌++◌, eqb, ltb, length, get_or}
 use Rattle.model.specs.Choice.{pick, on}
 use Rattle.tables.specs.declared.layout.DelayFields.{DelayFields}
 use Rattle.tables.specs.declared.layout.DelayFields.TheVariants.{Jitter, Pair}
@@ -21,7 +21,7 @@ use Rattle.typing.specs.Reading.{Typed, Reading, given, faulty, reading_of}
 use Rattle.typing.specs.Kept.{number_at, task_line_kept, row_line_kept, kept_behind, Ready}
 use Rattle.typed.specs.Bytes.{version_kept}
 use Rattle.typed.specs.Messages.{fault_line}
-use Rattle.typed.specs.declared.Answer.{Answer}
+use Rattle.typed.specs.declared.Faulty.{Faulty}
 use Rattle.typed.specs.Answered.{is_wrong, end_in, says_faulty}
 
 -- `line 3: cost`, or `no line: number of tasks` for what stands in no line
@@ -73,7 +73,7 @@ place_answer Blank state numbers places place = place_kept state.counts (version
 place_answer (Filling kind count) state numbers places place = place_kept state.counts (version_kept state.counts (number_at numbers 0)) places place
 place_answer (Wrong fault) state numbers places place = fault_line state.number fault
 
-pub record PlaceAnswered (state : State) (numbers places : List ℕ) (place : ℕ) (old : List ℕ) (answer : Answer) (new : List ℕ) : Type 0 where
+pub record PlaceAnswered (state : State) (numbers places : List ℕ) (place : ℕ) (old : List ℕ) (answer : Result ℕ Faulty) (new : List ℕ) : Type 0 where
   pub fault_is : says_faulty answer ≡ is_wrong state.line
   pub text_is : Appended old 0 (place_answer state.line state numbers places place) (end_in answer) new
 

@@ -19,25 +19,19 @@ pub mod places;
 // Bytes enough for any table that can be typed, and for the line of any fault.
 pub const LONGEST: usize = 4589;
 
-// What is put into the buffer, and where it ends: the table's bytes, or the line for a fault.
-#[derive(Clone, Copy)]
-pub enum Answer {
-    Bytes(usize),
-    Faulty(usize),
-}
+// For a text that can't be read: the line for its fault stands at the buffer's beginning, and ends there.
+#[derive(Clone, Copy, Debug, PartialEq, Eq)]
+pub struct Faulty(pub usize);
 
-// The answer to a text that is gone through.
-pub fn respond(state: State, numbers: &[u32], out: &mut [u8]) -> Answer
+// The answer to a text that is gone through: the table's bytes, put at the buffer's beginning, and where they end.
+pub fn respond(state: State, numbers: &[u32], out: &mut [u8]) -> Result<usize, Faulty>
     requires roomy { Roomy state.counts }
     requires numbers_len { length numbers.now ≡ 1393 }
     ensures { Answered state numbers.now out.old result out.new }
 {
-    let counts = state.counts;
-    let line = state.line;
-    match line {
-        Line::Blank => Answer::Bytes(table_bytes(counts, numbers, out)),
-        Line::Filling(_, _) => Answer::Bytes(table_bytes(counts, numbers, out)),
-        Line::Wrong(fault) => Answer::Faulty(fault_line(out, state.number, fault)),
+    match state.line {
+        Line::Wrong(fault) => Err(Faulty(fault_line(out, state.number, fault))),
+        _ => Ok(table_bytes(state.counts, numbers, out)),
     }
 }
 
@@ -49,13 +43,13 @@ pub fn table_bytes(counts: Counts, numbers: &[u32], out: &mut [u8]) -> usize
 {
     let version = version_of(counts, numbers[0]);
     let layout = tables::layout::of(version);
-    let delays = layout.delays;
     let headed = head(out, version, layout.size, counts.tasks, counts.sections);
-    let next = tasks(out, headed, delays, numbers, counts.tasks);
+    let next = tasks(out, headed, layout.delays, numbers, counts.tasks);
     sections(out, next, numbers, counts.sections)
 }
 
 // The version that is stated, or the lowest that can hold the table.
+#[tactic(auto, using(std::proofs::lemmas::Bool::Decides::nat_tests), unfolding(crate::specs::Bytes::version_kept))]
 pub fn version_of(counts: Counts, stated: u32) -> u8
     ensures { result ≡ version_kept counts stated }
 {
@@ -95,24 +89,18 @@ fn head(out: &mut [u8], version: u8, size: usize, tasks: usize, sections: usize)
 }
 
 // A number in four bytes.
+#[tactic(auto, using(crate::proofs::ByteLaws::word_bytes))]
 fn word(out: &mut [u8], at: usize, number: u32) -> usize
     ensures { Appended out.old at (four_bytes number) result out.new }
 {
-    let bytes = [
-        (number / 16777216) as u8,
-        (number / 65536 % 256) as u8,
-        (number / 256 % 256) as u8,
-        (number % 256) as u8,
-    ];
-    append(out, at, &bytes)
+    append(out, at, &number.to_be_bytes())
 }
 
 // A number in one byte.
 fn byte(out: &mut [u8], at: usize, number: u32) -> usize
     ensures { Appended out.old at (number % 256 ∷ []) result out.new }
 {
-    let bytes = [low(number)];
-    append(out, at, &bytes)
+    append(out, at, &[low(number)])
 }
 
 // The records of all tasks.
@@ -187,52 +175,28 @@ pub fn fault_line(out: &mut [u8], number: usize, fault: Fault) -> usize
 {
     let placed = append_with_number(out, 0, b"line ", number as u64);
     let next = append(out, placed, b": ");
-    let said = message(out, next, fault);
+    let said = append(out, next, message(fault));
     append(out, said, b"\n")
 }
 
 // What is wrong, and how it can be mended.
-fn message(out: &mut [u8], at: usize, fault: Fault) -> usize
-    ensures { Appended out.old at (message_of fault) result out.new }
+fn message(fault: Fault) -> &'static [u8]
+    ensures { result.now ≡ message_of fault }
 {
     match fault {
-        Fault::UnknownWord => append(
-            out,
-            at,
-            b"unknown word; a line begins with version, task or section, and a task may have jitter or delays behind its deadline",
-        ),
-        Fault::TooFew => append(
-            out,
-            at,
-            b"too few numbers; version has 1, task 4, jitter 1, delays 2, section 3",
-        ),
-        Fault::TooMany => append(
-            out,
-            at,
-            b"too many numbers; version has 1, task 4, jitter 1, delays 2, section 3",
-        ),
-        Fault::NotWhole => append(out, at, b"not a whole number; write digits only"),
-        Fault::TooLarge => append(
-            out,
-            at,
-            b"number too large; version, priority, place and semaphore go up to 255, all others up to 4294967295",
-        ),
-        Fault::TaskBehind => append(
-            out,
-            at,
-            b"task behind a section; all tasks stand before the first section",
-        ),
-        Fault::VersionBehind => append(
-            out,
-            at,
-            b"version must stand before every task and section, and only once",
-        ),
-        Fault::NoDelays => append(
-            out,
-            at,
-            b"version 1 has no delays; state version 2 or 3, or use jitter",
-        ),
-        Fault::ManyTasks => append(out, at, b"too many tasks; a table has at most 200"),
-        Fault::ManySections => append(out, at, b"too many sections; a table has at most 64"),
+        Fault::UnknownWord => {
+            b"unknown word; a line begins with version, task or section, and a task may have jitter or delays behind its deadline"
+        }
+        Fault::TooFew => b"too few numbers; version has 1, task 4, jitter 1, delays 2, section 3",
+        Fault::TooMany => b"too many numbers; version has 1, task 4, jitter 1, delays 2, section 3",
+        Fault::NotWhole => b"not a whole number; write digits only",
+        Fault::TooLarge => {
+            b"number too large; version, priority, place and semaphore go up to 255, all others up to 4294967295"
+        }
+        Fault::TaskBehind => b"task behind a section; all tasks stand before the first section",
+        Fault::VersionBehind => b"version must stand before every task and section, and only once",
+        Fault::NoDelays => b"version 1 has no delays; state version 2 or 3, or use jitter",
+        Fault::ManyTasks => b"too many tasks; a table has at most 200",
+        Fault::ManySections => b"too many sections; a table has at most 64",
     }
 }

@@ -8,7 +8,6 @@ use mathlib.Core.List.{List, [], ◌∷◌, ◌++◌}
 use lib.ListN.{length, take, get_or, set, length-take}
 use lib.Seq.{sets, take-suc, length-sets}
 use Rattle.scanning.proofs.WordLaws.{sets_more}
-use Rattle.typing.specs.Lines.{no_fields}
 
 -- the first i words are put
 pub record Putting (old : List ℕ) (at : ℕ) (words : List ℕ) (size i : ℕ) (new : List ℕ) : Type 0 where
@@ -41,14 +40,3 @@ module _ {old : List ℕ} {at : ℕ} {words : List ℕ} {size i : ℕ} {new : Li
   put_all_done h =
       let e : i ≡ size = omega (arith, p.most) in
       p.new_is ∙ ap (λ (k : ℕ). sets old at (take k words)) e
-
--- six zeros in six words
-pub cleared : (fields : List ℕ) → length fields ≡ 6 → sets fields 0 no_fields ≡ no_fields
-cleared [] h = absurd (omega (arith, h))
-cleared (a ∷ []) h = absurd (omega (arith, h))
-cleared (a ∷ b ∷ []) h = absurd (omega (arith, h))
-cleared (a ∷ b ∷ c ∷ []) h = absurd (omega (arith, h))
-cleared (a ∷ b ∷ c ∷ d ∷ []) h = absurd (omega (arith, h))
-cleared (a ∷ b ∷ c ∷ d ∷ e ∷ []) h = absurd (omega (arith, h))
-cleared (a ∷ b ∷ c ∷ d ∷ e ∷ f ∷ []) h = refl
-cleared (a ∷ b ∷ c ∷ d ∷ e ∷ f ∷ g ∷ rest) h = absurd (omega (arith, h))

@@ -1,8 +1,10 @@
 // One line of a text, word by word (SPECIFICATION 14.2): what it is, how many of its numbers are there, and the first that is wrong in it.
-ghost use Rattle.std.specs.Prelude.{◌≡◌, ◌≤◌, ◌<◌, leb};
-ghost use Rattle.typing.specs.Lines.{needed_for, byte_below, limit_for, field_for, task_begun, section_begun, version_begun, begun_by, number_line, delays_behind, behind_of, went_on, line_after, is_taken, whole_line, ended_line, is_whole};
+ghost use Rattle.std.specs.Prelude.{◌+◌, ◌≡◌, ◌≤◌, ◌<◌};
+ghost use Rattle.words.specs.Steps.{number_of};
+ghost use Rattle.typing.specs.Lines.{needed_for, byte_below, limit_for, field_for, task_begun, section_begun, version_begun, begun_by, number_line, delays_behind, behind_of, went_on, line_after, is_taken, ended_line, is_whole};
+ghost use Rattle.typing.specs.Steps.{Few, slot_for, size_for, place_slot};
 
-use words::NOT_WHOLE;
+use words::Amount;
 
 // The words that mean something, by their spelling (crates/words/specs/Words.antt).
 const TASK: u64 = 6247510891;
@@ -20,16 +22,19 @@ pub const MOST_TASKS: usize = 200;
 
 pub const MOST_SECTIONS: usize = 64;
 
-// The largest number of a field of one byte, and of one of four.
-const LARGEST_BYTE: u64 = 255;
-
-const LARGEST_WORD: u64 = 4294967295;
+// The largest number of a field of one byte.
+const LARGEST_BYTE: u32 = 255;
 
 // The field of the latest delay, which is J.
 const LATEST: usize = 5;
 
+// Where the tasks' numbers begin in the slice of all numbers, and their lines in the other.
+const TASKS_FROM: usize = 193;
+
+const PLACES_FROM: usize = 65;
+
 // What a line is. A task's line becomes one with jitter or with delays at that word.
-#[derive(Clone, Copy)]
+#[derive(Clone, Copy, Debug, PartialEq, Eq)]
 pub enum Kind {
     VersionLine,
     TaskLine,
@@ -39,7 +44,7 @@ pub enum Kind {
 }
 
 // Why a text can't be read.
-#[derive(Clone, Copy)]
+#[derive(Clone, Copy, Debug, PartialEq, Eq)]
 pub enum Fault {
     UnknownWord,
     TooFew,
@@ -54,7 +59,7 @@ pub enum Fault {
 }
 
 // A line so far: no word, so many numbers of a kind, or a fault, which stays.
-#[derive(Clone, Copy)]
+#[derive(Clone, Copy, Debug, PartialEq, Eq)]
 pub enum Line {
     Blank,
     Filling(Kind, usize),
@@ -62,7 +67,7 @@ pub enum Line {
 }
 
 // What stands in the lines before: a version, and whether it is 1; a task with the word `delays`; and how many tasks and sections.
-#[derive(Clone, Copy)]
+#[derive(Clone, Copy, Debug, PartialEq, Eq)]
 pub struct Counts {
     pub stated: bool,
     pub old: bool,
@@ -71,69 +76,127 @@ pub struct Counts {
     pub sections: usize,
 }
 
-// How many numbers a whole line has.
-pub fn needed(kind: Kind) -> usize
-    ensures { (result ≡ needed_for kind) × (result ≤ 6) }
-{
-    match kind {
-        Kind::VersionLine => 1,
-        Kind::TaskLine => 4,
-        Kind::JitterLine => 5,
-        Kind::DelaysLine => 6,
-        Kind::SectionLine => 3,
+impl Kind {
+    // How many numbers a whole line has.
+    fn needed(self) -> usize
+        ensures { result ≡ needed_for self }
+    {
+        match self {
+            Kind::VersionLine => 1,
+            Kind::TaskLine => 4,
+            Kind::JitterLine => 5,
+            Kind::DelaysLine => 6,
+            Kind::SectionLine => 3,
+        }
     }
-}
 
-// The largest that the number at a place of a line may be: what its field holds.
-fn limit(kind: Kind, at: usize) -> u64
-    ensures { result ≡ limit_for kind at }
-{
-    match kind {
-        Kind::VersionLine => LARGEST_BYTE,
-        Kind::TaskLine => byte_below(1, at),
-        Kind::JitterLine => byte_below(1, at),
-        Kind::DelaysLine => byte_below(1, at),
-        Kind::SectionLine => byte_below(2, at),
+    // The largest that the number at a place of a line may be: what its field holds.
+    fn limit(self, at: usize) -> u32
+        ensures { result ≡ limit_for self at }
+    {
+        match self {
+            Kind::VersionLine => LARGEST_BYTE,
+            Kind::TaskLine | Kind::JitterLine | Kind::DelaysLine => byte_below(1, at),
+            Kind::SectionLine => byte_below(2, at),
+        }
+    }
+
+    // Which of six fields the number at this place of the line is for: the last one is the latest delay, which is J.
+    pub fn field(self, at: usize) -> usize
+        ensures { result ≡ field_for self at }
+    {
+        match self {
+            Kind::JitterLine => LATEST,
+            _ => at,
+        }
+    }
+
+    // Is it a number that the field at this place of the line holds?
+    #[tactic(auto, using(std::proofs::lemmas::Bool::Decides::nat_tests), unfolding(crate::specs::Lines::is_taken))]
+    pub fn is_taken(self, count: usize, number: u32) -> bool
+        ensures { result ≡ is_taken self count number }
+    {
+        count < self.needed() && number <= self.limit(count)
+    }
+
+    // Are all of its numbers there?
+    #[tactic(auto, using(std::proofs::lemmas::Bool::Decides::nat_tests), unfolding(crate::specs::Lines::is_whole))]
+    pub fn is_whole(self, count: usize) -> bool
+        ensures { result ≡ is_whole self count }
+    {
+        self.needed() <= count
+    }
+
+    // Where the numbers of the next line of this kind begin.
+    pub fn slot(self, counts: Counts) -> usize
+        requires { Few counts }
+        ensures { (result ≡ slot_for self counts) × (result + 6 < 18446744073709551616) }
+    {
+        match self {
+            Kind::VersionLine => 0,
+            Kind::TaskLine | Kind::JitterLine | Kind::DelaysLine => TASKS_FROM + 6 * counts.tasks,
+            Kind::SectionLine => 1 + 3 * counts.sections,
+        }
+    }
+
+    // How many of the fields they are.
+    pub fn size(self) -> usize
+        ensures { (result ≡ size_for self) × (result ≤ 6) }
+    {
+        match self {
+            Kind::VersionLine => 1,
+            Kind::TaskLine | Kind::JitterLine | Kind::DelaysLine => 6,
+            Kind::SectionLine => 3,
+        }
+    }
+
+    // Where the line's number goes.
+    pub fn place_slot(self, counts: Counts) -> usize
+        requires { Few counts }
+        ensures { result ≡ place_slot self counts }
+    {
+        match self {
+            Kind::VersionLine => 0,
+            Kind::TaskLine | Kind::JitterLine | Kind::DelaysLine => PLACES_FROM + counts.tasks,
+            Kind::SectionLine => 1 + counts.sections,
+        }
     }
 }
 
 // The first numbers of a line are for fields of one byte.
-fn byte_below(first: usize, at: usize) -> u64
+#[tactic(auto, using(std::proofs::lemmas::Bool::Decides::nat_tests))]
+fn byte_below(first: usize, at: usize) -> u32
     ensures { result ≡ byte_below first at }
 {
-    if at < first {
-        return LARGEST_BYTE;
-    }
-    LARGEST_WORD
+    if at < first { LARGEST_BYTE } else { u32::MAX }
 }
 
 // The line behind one word more.
-pub fn after_word(counts: Counts, line: Line, spelling: u64, amount: u64) -> Line
-    ensures { result ≡ line_after counts line spelling amount }
+#[tactic(auto, using(std::proofs::lemmas::Bool::Decides::nat_tests), unfolding(crate::specs::Lines::line_after))]
+pub fn after_word(counts: Counts, line: Line, spelling: u64, amount: Amount) -> Line
+    ensures { result ≡ line_after counts line spelling (number_of amount) }
 {
     match line {
         Line::Blank => begin(counts, spelling),
         Line::Filling(kind, count) => go_on(counts.old, kind, count, spelling, amount),
-        Line::Wrong(fault) => Line::Wrong(fault),
+        Line::Wrong(_) => line,
     }
 }
 
 // The first word says what the line is.
+#[tactic(auto, using(std::proofs::lemmas::Bool::Decides::nat_tests), unfolding(crate::specs::Lines::begun_by, words::specs::Words::spelled_from, words::specs::Words::spelled_after))]
 fn begin(counts: Counts, spelling: u64) -> Line
     ensures { result ≡ begun_by counts spelling }
 {
-    if spelling == TASK {
-        return begin_task(counts);
+    match spelling {
+        TASK => begin_task(counts),
+        SECTION => begin_section(counts),
+        VERSION => begin_version(counts),
+        _ => Line::Wrong(Fault::UnknownWord),
     }
-    if spelling == SECTION {
-        return begin_section(counts);
-    }
-    if spelling == VERSION {
-        return begin_version(counts);
-    }
-    Line::Wrong(Fault::UnknownWord)
 }
 
+#[tactic(auto, using(std::proofs::lemmas::Bool::Decides::nat_tests), unfolding(crate::specs::Lines::task_begun))]
 fn begin_task(counts: Counts) -> Line
     ensures { result ≡ task_begun counts }
 {
@@ -146,6 +209,7 @@ fn begin_task(counts: Counts) -> Line
     Line::Filling(Kind::TaskLine, 0)
 }
 
+#[tactic(auto, using(std::proofs::lemmas::Bool::Decides::nat_tests), unfolding(crate::specs::Lines::section_begun))]
 fn begin_section(counts: Counts) -> Line
     ensures { result ≡ section_begun counts }
 {
@@ -155,68 +219,40 @@ fn begin_section(counts: Counts) -> Line
     Line::Filling(Kind::SectionLine, 0)
 }
 
+#[tactic(auto, using(std::proofs::lemmas::Bool::Decides::nat_tests), unfolding(crate::specs::Lines::version_begun))]
 fn begin_version(counts: Counts) -> Line
     ensures { result ≡ version_begun counts }
 {
-    if counts.stated {
-        return Line::Wrong(Fault::VersionBehind);
-    }
-    if 0 < counts.tasks {
-        return Line::Wrong(Fault::VersionBehind);
-    }
-    if 0 < counts.sections {
+    if counts.stated || 0 < counts.tasks || 0 < counts.sections {
         return Line::Wrong(Fault::VersionBehind);
     }
     Line::Filling(Kind::VersionLine, 0)
 }
 
 // A number, as long as numbers are missing; behind them a task may have one word more.
-fn go_on(old: bool, kind: Kind, count: usize, spelling: u64, amount: u64) -> Line
-    ensures { result ≡ went_on old kind count spelling amount }
+#[tactic(auto, using(std::proofs::lemmas::Bool::Decides::nat_tests), unfolding(crate::specs::Lines::went_on))]
+fn go_on(old: bool, kind: Kind, count: usize, spelling: u64, amount: Amount) -> Line
+    ensures { result ≡ went_on old kind count spelling (number_of amount) }
 {
-    if count < needed(kind) {
+    if count < kind.needed() {
         return take_number(kind, count, amount);
     }
-    if amount != NOT_WHOLE {
-        return Line::Wrong(Fault::TooMany);
-    }
-    take_behind(old, kind, spelling)
-}
-
-// Is it a number that the field at this place of the line holds?
-pub fn is_taken(kind: Kind, count: usize, amount: u64) -> bool
-    ensures { result ≡ is_taken kind count amount }
-{
-    if needed(kind) <= count {
-        return false;
-    }
-    amount <= limit(kind, count)
-}
-
-// Which of six fields the number at this place of the line is for: the last one is the latest delay, which is J.
-pub fn field(kind: Kind, at: usize) -> usize
-    ensures { result ≡ field_for kind at }
-{
-    match kind {
-        Kind::VersionLine => at,
-        Kind::TaskLine => at,
-        Kind::JitterLine => LATEST,
-        Kind::DelaysLine => at,
-        Kind::SectionLine => at,
+    match amount {
+        Amount::NotWhole => take_behind(old, kind, spelling),
+        _ => Line::Wrong(Fault::TooMany),
     }
 }
 
-fn take_number(kind: Kind, count: usize, amount: u64) -> Line
+#[tactic(auto, using(std::proofs::lemmas::Bool::Decides::nat_tests, crate::proofs::LineLaws::limit_small), unfolding(crate::specs::Lines::number_line))]
+fn take_number(kind: Kind, count: usize, amount: Amount) -> Line
     requires { count < needed_for kind }
-    ensures { result ≡ number_line kind count amount }
+    ensures { result ≡ number_line kind count (number_of amount) }
 {
-    if amount == NOT_WHOLE {
-        return Line::Wrong(Fault::NotWhole);
+    match amount {
+        Amount::Whole(number) if number <= kind.limit(count) => Line::Filling(kind, count + 1),
+        Amount::NotWhole => Line::Wrong(Fault::NotWhole),
+        _ => Line::Wrong(Fault::TooLarge),
     }
-    if limit(kind, count) < amount {
-        return Line::Wrong(Fault::TooLarge);
-    }
-    Line::Filling(kind, count + 1)
 }
 
 // What a word that is no number says behind the last number of a line.
@@ -224,53 +260,32 @@ fn take_behind(old: bool, kind: Kind, spelling: u64) -> Line
     ensures { result ≡ behind_of old kind spelling }
 {
     match kind {
-        Kind::VersionLine => Line::Wrong(Fault::UnknownWord),
         Kind::TaskLine => take_delays(old, spelling),
-        Kind::JitterLine => Line::Wrong(Fault::UnknownWord),
-        Kind::DelaysLine => Line::Wrong(Fault::UnknownWord),
-        Kind::SectionLine => Line::Wrong(Fault::UnknownWord),
+        _ => Line::Wrong(Fault::UnknownWord),
     }
 }
 
 // Version 1 has no place for an earliest delay (SPECIFICATION 2.2).
+#[tactic(auto, using(std::proofs::lemmas::Bool::Decides::nat_tests), unfolding(crate::specs::Lines::delays_behind, words::specs::Words::spelled_from, words::specs::Words::spelled_after))]
 fn take_delays(old: bool, spelling: u64) -> Line
     ensures { result ≡ delays_behind old spelling }
 {
-    if spelling == JITTER {
-        return Line::Filling(Kind::JitterLine, 4);
+    match spelling {
+        JITTER => Line::Filling(Kind::JitterLine, 4),
+        DELAYS if old => Line::Wrong(Fault::NoDelays),
+        DELAYS => Line::Filling(Kind::DelaysLine, 4),
+        _ => Line::Wrong(Fault::UnknownWord),
     }
-    if spelling != DELAYS {
-        return Line::Wrong(Fault::UnknownWord);
-    }
-    if old {
-        return Line::Wrong(Fault::NoDelays);
-    }
-    Line::Filling(Kind::DelaysLine, 4)
 }
 
 // The line at its end, before the next one begins: a fault stays, and so does that numbers are missing.
+#[tactic(auto, using(std::proofs::lemmas::Bool::Decides::nat_tests), unfolding(crate::specs::Lines::ended_line, crate::specs::Lines::whole_line))]
 pub fn at_end(line: Line) -> Line
     ensures { result ≡ ended_line line }
 {
     match line {
-        Line::Blank => Line::Blank,
-        Line::Filling(kind, count) => whole(kind, count),
-        Line::Wrong(fault) => Line::Wrong(fault),
+        Line::Filling(kind, count) if !kind.is_whole(count) => Line::Wrong(Fault::TooFew),
+        Line::Wrong(_) => line,
+        _ => Line::Blank,
     }
-}
-
-fn whole(kind: Kind, count: usize) -> Line
-    ensures { result ≡ whole_line kind count }
-{
-    if is_whole(kind, count) {
-        return Line::Blank;
-    }
-    Line::Wrong(Fault::TooFew)
-}
-
-// Are all of its numbers there?
-pub fn is_whole(kind: Kind, count: usize) -> bool
-    ensures { result ≡ is_whole kind count }
-{
-    needed(kind) <= count
 }

@@ -1,3 +1,2 @@
-pub mod StepLaws
 pub mod HeardLaws
 pub mod SpellingLaws

@@ -10,19 +10,19 @@ loop-scan-init g c = sofar_none c.begin-scan.ensures c.requires (length-replicat
 
 pub take_in-requires : goal.take_in-requires
 take_in-requires g c =
-    sofar_fits c.loop-scan.invariant c.loop-scan-test.true c.read.new.buf c.in-Ok.count c.read.auto.buf c.in-Ok.ensures.bound
+    sofar_fits c.loop-scan.invariant c.loop-scan-test.true c.read.new.buf c.in_ok-taken.taken c.read.auto.buf c.in_ok-taken.ensures.bound
 
-pub returns-in-Ended : goal.returns-in-Ended
-returns-in-Ended g c =
-    sofar_last c.loop-scan.invariant c.loop-scan-test.true c.read.new.buf c.in-Ok.count c.read.auto.buf c.in-Ok.ensures.bound
-    c.take_in.ensures c.in-Ended.is
+pub returns-in-Break : goal.returns-in-Break
+returns-in-Break g c =
+    sofar_last c.loop-scan.invariant c.loop-scan-test.true c.read.new.buf c.in_ok-taken.taken c.read.auto.buf c.in_ok-taken.ensures.bound
+    c.take_in.ensures c.in-Break.is
 
 pub loop-scan-smaller : goal.loop-scan-smaller
 loop-scan-smaller g c =
-    sofar_less c.loop-scan.invariant c.loop-scan-test.true c.read.new.buf c.in-Ok.count c.read.auto.buf c.in-Ok.ensures.bound
-    c.take_in.ensures c.in-More.is
+    sofar_less c.loop-scan.invariant c.loop-scan-test.true c.read.new.buf c.in_ok-taken.taken c.read.auto.buf c.in_ok-taken.ensures.bound
+    c.take_in.ensures c.in-Continue.is
 
 pub loop-scan-preserved : goal.loop-scan-preserved
 loop-scan-preserved g c =
-    sofar_more c.loop-scan.invariant c.loop-scan-test.true c.read.new.buf c.in-Ok.count c.read.auto.buf c.in-Ok.ensures.bound
-    c.take_in.ensures c.in-More.is
+    sofar_more c.loop-scan.invariant c.loop-scan-test.true c.read.new.buf c.in_ok-taken.taken c.read.auto.buf c.in_ok-taken.ensures.bound
+    c.take_in.ensures c.in-Continue.is

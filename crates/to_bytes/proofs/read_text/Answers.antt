@@ -10,9 +10,9 @@ loop-total-init g c = sofar_none c.begin-reader.ensures c.requires (length-repli
 
 pub go_on-reader-requires-clause-bounded : goal.go_on-reader-requires-clause-bounded
 go_on-reader-requires-clause-bounded g c =
-    sofar_bounded c.loop-total.invariant c.loop-total-test.true c.read.new.buf c.in-Ok.count c.if-taken-eq0.array_long c.in-Ok.ensures.bound
+    sofar_bounded c.loop-total.invariant c.loop-total-test.true c.read.new.buf c.in_ok-taken.taken c.if-taken-eq0.array_long c.in_ok-taken.ensures.bound
 
 pub loop-total-preserved : goal.loop-total-preserved
 loop-total-preserved g c =
-    sofar_more c.loop-total.invariant c.loop-total-test.true c.read.new.buf c.in-Ok.count c.if-taken-eq0.array_long c.in-Ok.ensures.bound
+    sofar_more c.loop-total.invariant c.loop-total-test.true c.read.new.buf c.in_ok-taken.taken c.if-taken-eq0.array_long c.in_ok-taken.ensures.bound
     c.go_on-reader.ensures.spot_value c.go_on-reader.ensures.places_after
