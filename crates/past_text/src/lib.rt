@@ -3,12 +3,12 @@
 #![tactic(auto)]
 
 ghost use Rattle.printing.specs.Appended.{Appended};
+ghost use Rattle.printing.specs.Page.{Wrote};
 ghost use Rattle.past_text.specs.Answered.{past_text};
 ghost use Rattle.past_text.specs.Text.{found_line, judged_text, past_text_of};
 
 use overlaps::{Found, analyse_past_period};
-use printing::{append, line_with_number, refusal_line, tasks, verdict_line};
-use response::Verdict;
+use printing::Page;
 
 // Bytes enough for the text of any table, and for the longest no more than enough: `longest_past` of specs/Longest.antt.
 pub const LONGEST: usize = 9312;
@@ -20,53 +20,49 @@ pub fn past_text(table: &[u8], out: &mut [u8]) -> usize
     let mut answers = [0u32; 200];
     let mut tried = [0u32; 200];
     let found = analyse_past_period(table, &mut answers, &mut tried);
-    text(out, 0, table, found, &answers, &tried)
+    let mut page = Page { out, at: 0 };
+    text(&mut page, table, found, &answers, &tried);
+    page.at
 }
 
-// Appends the text at `at`, and answers where the next byte goes.
-pub fn text(
-    out: &mut [u8],
-    at: usize,
-    table: &[u8],
-    found: Found,
-    answers: &[u32],
-    tried: &[u32],
-) -> usize
-    ensures { Appended out.old at (past_text_of table.now found answers.now tried.now) result out.new }
+// Appends the text for a table, what was found and the words of both slices.
+pub fn text(page: &mut Page, table: &[u8], found: Found, answers: &[u32], tried: &[u32])
+    ensures { Wrote page.old (past_text_of table.now found answers.now tried.now) page.new }
 {
     match found {
-        Found::Refused(_) => found_line(out, at, found),
-        Found::Delayed => found_line(out, at, found),
-        Found::Schedulable => judged(out, at, table, found, answers, tried),
-        Found::Late(_) => judged(out, at, table, found, answers, tried),
-        Found::Open(_) => judged(out, at, table, found, answers, tried),
+        Found::Refused(_) | Found::Delayed => line(page, found),
+        Found::Schedulable | Found::Late(_) | Found::Open(_) => judged(
+            page, table, found, answers, tried,
+        ),
     }
 }
 
 // The tasks' lines, with the number of q tried, and the line that says what was found.
-fn judged(
-    out: &mut [u8],
-    at: usize,
-    table: &[u8],
-    found: Found,
-    answers: &[u32],
-    tried: &[u32],
-) -> usize
-    ensures { Appended out.old at (judged_text table.now found answers.now tried.now) result out.new }
+fn judged(page: &mut Page, table: &[u8], found: Found, answers: &[u32], tried: &[u32])
+    ensures { Wrote page.old (judged_text table.now found answers.now tried.now) page.new }
 {
-    let next = tasks(out, at, table, b" tried ", answers, tried);
-    found_line(out, next, found)
+    page.tasks(table, b" tried ", answers, tried);
+    line(page, found);
 }
 
 // The line that says what was found.
+fn line(page: &mut Page, found: Found)
+    ensures { Wrote page.old (found_line found) page.new }
+{
+    match found {
+        Found::Refused(refusal) => page.refused(refusal),
+        Found::Delayed => page.refusal_line(11, 0),
+        Found::Schedulable => page.append(b"schedulable\n"),
+        Found::Late(first) => page.line_with_number(b"late ", first.0 as u64),
+        Found::Open(first) => page.line_with_number(b"open ", first.0 as u64),
+    }
+}
+
+// The same at a place of a buffer; answers where the next byte goes.
 pub fn found_line(out: &mut [u8], at: usize, found: Found) -> usize
     ensures { Appended out.old at (found_line found) result out.new }
 {
-    match found {
-        Found::Refused(refusal) => verdict_line(out, at, Verdict::Refused(refusal)),
-        Found::Delayed => refusal_line(out, at, 11, 0),
-        Found::Schedulable => append(out, at, b"schedulable\n"),
-        Found::Late(first) => line_with_number(out, at, b"late ", first.0 as u64),
-        Found::Open(first) => line_with_number(out, at, b"open ", first.0 as u64),
-    }
+    let mut page = Page { out, at };
+    line(&mut page, found);
+    page.at
 }

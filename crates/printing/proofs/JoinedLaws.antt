@@ -9,6 +9,9 @@ use Rattle.model.proofs.Lists.{tabulate_more}
 use Rattle.encoding.specs.Bytes.{joined}
 use Rattle.printing.specs.Appended.{Appended}
 use Rattle.printing.proofs.AppendLaws.{then, nothing, as_text}
+use Rattle.printing.specs.declared.page.Page.{Page}
+use Rattle.printing.specs.Page.{Wrote}
+use Rattle.printing.proofs.PageLaws.{both, none, as_wrote}
 
 module _ {A : Type 0} (line : A → List ℕ) where
   joined_both : (xs ys : List A) → joined line (xs ++ ys) ≡ joined line xs ++ joined line ys
@@ -49,3 +52,12 @@ pub lines_all : {A : Type 0} {line : A → List ℕ} {thing : ℕ → A} {old ne
 lines_all {line = line} {thing = thing} {i = i} {count = count} l h counted =
     let e : i ≡ count = omega (arith, l.most) in
     as_text l.lines (ap (λ (k : ℕ). joined line (tabulate thing k)) e)
+
+-- the same on a page
+pub joined_none : {A : Type 0} (line : A → List ℕ) (thing : ℕ → A) (page : Page) → Wrote page (joined line (tabulate thing 0)) page
+unfolding joined tabulate
+joined_none line thing page = none page
+
+pub joined_more : {A : Type 0} (line : A → List ℕ) (thing : ℕ → A) (i : ℕ) {old middle new : Page} → Wrote old (joined line (tabulate thing i)) middle →
+    {x : A} → x ≡ thing i → Wrote middle (line x) new → Wrote old (joined line (tabulate thing (i + 1))) new
+joined_more line thing i lines {x} e one = as_wrote (both lines one) (one_more line thing i x e)

@@ -1,4 +1,5 @@
 pub mod AppendLaws
+pub mod PageLaws
 pub mod JoinedLaws
 pub mod NumberLaws
 pub mod TextLaws

@@ -6,16 +6,17 @@ use native.Mathlib.Nat.{mul-le-mul}
 use native.Mathlib.Numerals.{add-one}
 use mathlib.Core.Path.{◌≡◌, refl, sym, ◌∙◌, ap}
 use mathlib.Core.Logic.{inl, inr}
-use mathlib.Core.List.{List, ◌++◌}
-use lib.ListN.{length, get_or, get_or-eq_default}
+use mathlib.Core.List.{List, [], ◌∷◌, ◌++◌}
+use lib.ListN.{length, get_or}
 use Rattle.model.proofs.Tests.{ltb?, eqb?}
 use Rattle.tables.specs.declared.layout.Layout.{Layout}
-use Rattle.tables.specs.Layout.{word_at, layout_of, task_count, record_start, deadline_at}
+use Rattle.tables.specs.Layout.{word_at, layout_for, layout_of, task_count, record_start, deadline_at}
 use Rattle.tables.proofs.LayoutLaws.{size_small}
-use Rattle.printing.specs.Appended.{Appended}
+use Rattle.printing.specs.declared.page.Page.{Page}
+use Rattle.printing.specs.Page.{Wrote}
 use Rattle.model.specs.Tables.{open_word}
 use Rattle.printing.specs.Text.{bytes_of, with_number, line_with_number, response_text, task_line, task_lines, tasks_text, deadline_shown}
-use Rattle.printing.proofs.AppendLaws.{then, nothing, as_text}
+use Rattle.printing.proofs.PageLaws.{both, none, as_wrote}
 
 pub response_late : (answer : ℕ) → answer ≡ 0 → bytes_of " late" ≡ response_text answer
 response_late answer e = rw e
@@ -63,25 +64,15 @@ module _ (bytes : List ℕ) (layout : Layout) (decided : layout ≡ layout_of by
         | inr p ↦ rw p.0 (e ∙ ap (word_at bytes) there)
       ]
 
-  -- a place that a byte can name is not far on
-  pub deadline_near : place < 256 → layout.size * place ≤ 5376
-  deadline_near h = omega (arith, mul-le-mul {n₁ = layout.size} {m₁ = place} {n₂ = 21} {m₂ = 256} (size_small bytes layout decided) (omega arith))
-
-pub past_end : (words : List ℕ) (place : ℕ) → length words ≤ place → 0 ≡ get_or words place 0
-past_end words place h = sym (get_or-eq_default words 0 h)
+-- a place that a byte can name is not far on
+pub deadline_near : {layout : Layout} {place : ℕ} (version : ℕ) → layout ≡ layout_for version → place < 256 → layout.size * place ≤ 5376
+deadline_near {layout} {place} version decided h =
+    omega (arith, mul-le-mul {n₁ = layout.size} {m₁ = place} {n₂ = 21} {m₂ = 256} (size_small (version ∷ []) layout decided) (omega arith))
 
 -- the lines of the first i tasks, whatever word stands in front of their last number
-pub record Lines (old : List ℕ) (at : ℕ) (word bytes answers counts : List ℕ) (n i next : ℕ) (new : List ℕ) : Type 0 where
-  pub most : i ≤ n
-  pub counted : n ≡ task_count bytes
-  pub few : n < 256
-  pub lines : Appended old at (task_lines word bytes answers counts i) next new
-
-pub lines_none : (old : List ℕ) (at : ℕ) (word bytes answers counts : List ℕ) (n : ℕ) → n ≡ task_count bytes → n < 256 →
-    Lines old at word bytes answers counts n 0 at old
+pub lines_none : (page : Page) (word bytes answers counts : List ℕ) → Wrote page (task_lines word bytes answers counts 0) page
 unfolding task_lines
-lines_none old at word bytes answers counts n e h =
-    record { most = omega arith; counted = e; few = h; lines = nothing old at }
+lines_none page word bytes answers counts = none page
 
 one_more : (word bytes answers counts : List ℕ) (i answer deadline count : ℕ) → answer ≡ get_or answers i 0 → deadline ≡ deadline_shown bytes i →
     count ≡ get_or counts i 0 →
@@ -93,23 +84,15 @@ one_more word bytes answers counts i answer deadline count a d r =
     ∙ ap (λ (x : ℕ). task_lines word bytes answers counts i ++ task_line word i (get_or answers i 0) (deadline_shown bytes i) x) r
     ∙ ap (task_lines word bytes answers counts) (sym (add-one i))
 
-pub lines_more_law : {old : List ℕ} {at : ℕ} {word bytes answers counts : List ℕ} {n i next end : ℕ} {middle new : List ℕ} {answer deadline count : ℕ} →
-    Lines old at word bytes answers counts n i next middle → i < n → answer ≡ get_or answers i 0 → deadline ≡ deadline_shown bytes i →
-    count ≡ get_or counts i 0 → Appended middle next (task_line word i answer deadline count) end new →
-    Lines old at word bytes answers counts n (i + 1) end new
-lines_more_law {word = word} {bytes = bytes} {answers = answers} {counts = counts} {i = i} {answer = answer} {deadline = deadline} {count = count} l h a d r line =
-    record {
-      most = omega arith;
-      counted = l.counted;
-      few = l.few;
-      lines = as_text (then l.lines line) (one_more word bytes answers counts i answer deadline count a d r);
-    }
+pub lines_more_law : (word bytes answers counts : List ℕ) (i : ℕ) {old middle new : Page} {answer deadline count : ℕ} →
+    Wrote old (task_lines word bytes answers counts i) middle → answer ≡ get_or answers i 0 → deadline ≡ deadline_shown bytes i →
+    count ≡ get_or counts i 0 → Wrote middle (task_line word i answer deadline count) new → Wrote old (task_lines word bytes answers counts (i + 1)) new
+lines_more_law word bytes answers counts i {answer = answer} {deadline = deadline} {count = count} lines a d r line =
+    as_wrote (both lines line) (one_more word bytes answers counts i answer deadline count a d r)
 
-pub lines_all : {old middle new : List ℕ} {at between next : ℕ} {word bytes answers counts : List ℕ} {n i : ℕ} →
-    Appended old at (line_with_number (bytes_of "tasks ") n) between middle → Lines middle between word bytes answers counts n i next new → n ≤ i →
-    Appended old at (tasks_text word bytes answers counts) next new
-lines_all {word = word} {bytes = bytes} {answers = answers} {counts = counts} {n = n} {i = i} first l h =
-    let e : i ≡ n = omega (arith, l.most) in
-    as_text (then first l.lines)
+pub lines_all : (word bytes answers counts : List ℕ) {old middle new : Page} {n i : ℕ} → Wrote old (line_with_number (bytes_of "tasks ") n) middle →
+    Wrote middle (task_lines word bytes answers counts i) new → i ≡ n → n ≡ task_count bytes → Wrote old (tasks_text word bytes answers counts) new
+lines_all word bytes answers counts {n = n} {i = i} first lines e counted =
+    as_wrote (both first lines)
     (ap (λ (x : ℕ). line_with_number (bytes_of "tasks ") n ++ task_lines word bytes answers counts x) e
-    ∙ ap (λ (x : ℕ). line_with_number (bytes_of "tasks ") x ++ task_lines word bytes answers counts x) l.counted)
+    ∙ ap (λ (x : ℕ). line_with_number (bytes_of "tasks ") x ++ task_lines word bytes answers counts x) counted)

@@ -5,16 +5,19 @@
 ghost use Rattle.std.specs.Prelude.{◌≡◌, ◌<◌, get_or};
 ghost use Rattle.tables.specs.Layout.{task_count};
 ghost use Rattle.printing.specs.Appended.{Appended};
+ghost use Rattle.printing.specs.Page.{Wrote};
 ghost use Rattle.printing.specs.Answered.{answer_text};
-ghost use Rattle.printing.specs.Text.{text_of, judged_text, verdict_line, line_with_number, refusal_line, refused_line, tasks_text, task_line, response_text, deadline_shown};
+ghost use Rattle.printing.specs.Text.{text_of, judged_text, verdict_line, refusal_line, refused_line, tasks_text, task_line, response_text, deadline_shown};
 
 use model::{OPEN, Place, Ticks};
 use response::{Start, Verdict};
 use tables::{DEADLINE_AT, HEAD_SIZE, Refusal, TASK_COUNT_AT, VERSION_AT};
 
+mod page;
 mod pieces;
 
-pub use pieces::{append, append_number, append_with_number};
+pub use page::Page;
+pub use pieces::{append, append_with_number, line_with_number, refusal_line, text, verdict_line};
 
 // Bytes enough for the text of any table, and for the longest no more than enough: `longest` of specs/Longest.antt.
 pub const LONGEST: usize = 10512;
@@ -29,47 +32,84 @@ pub fn answer_text(start: Start, table: &[u8], out: &mut [u8]) -> usize
     text(out, 0, table, verdict, &answers, &rounds)
 }
 
-// Appends the text at `at`, and answers where the next byte goes.
-pub fn text(
-    out: &mut [u8],
-    at: usize,
-    table: &[u8],
-    verdict: Verdict,
-    answers: &[u32],
-    rounds: &[u32],
-) -> usize
-    ensures { Appended out.old at (text_of table.now verdict answers.now rounds.now) result out.new }
-{
-    match verdict {
-        Verdict::Refused(_) => verdict_line(out, at, verdict),
-        Verdict::Schedulable => judged(out, at, table, verdict, answers, rounds),
-        Verdict::Late(_) => judged(out, at, table, verdict, answers, rounds),
+impl<'a> Page<'a> {
+    // Appends the text for a table, its verdict and the words of both slices.
+    pub fn text(&mut self, table: &[u8], verdict: Verdict, answers: &[u32], rounds: &[u32])
+        ensures { Wrote self.old (text_of table.now verdict answers.now rounds.now) self.new }
+    {
+        match verdict {
+            Verdict::Refused(_) => self.verdict_line(verdict),
+            Verdict::Schedulable | Verdict::Late(_) => self.judged(table, verdict, answers, rounds),
+        }
     }
-}
 
-// The tasks' lines, with their rounds, and the verdict's.
-fn judged(
-    out: &mut [u8],
-    at: usize,
-    table: &[u8],
-    verdict: Verdict,
-    answers: &[u32],
-    rounds: &[u32],
-) -> usize
-    ensures { Appended out.old at (judged_text table.now verdict answers.now rounds.now) result out.new }
-{
-    let next = tasks(out, at, table, b" rounds ", answers, rounds);
-    verdict_line(out, next, verdict)
-}
+    // The tasks' lines, with their rounds, and the verdict's.
+    fn judged(&mut self, table: &[u8], verdict: Verdict, answers: &[u32], rounds: &[u32])
+        ensures { Wrote self.old (judged_text table.now verdict answers.now rounds.now) self.new }
+    {
+        self.tasks(table, b" rounds ", answers, rounds);
+        self.verdict_line(verdict);
+    }
 
-// The line that says the verdict.
-pub fn verdict_line(out: &mut [u8], at: usize, verdict: Verdict) -> usize
-    ensures { Appended out.old at (verdict_line verdict) result out.new }
-{
-    match verdict {
-        Verdict::Refused(refusal) => refused(out, at, refusal),
-        Verdict::Schedulable => append(out, at, b"schedulable\n"),
-        Verdict::Late(first) => line_with_number(out, at, b"late ", first.0 as u64),
+    // The line that says the verdict.
+    pub fn verdict_line(&mut self, verdict: Verdict)
+        ensures { Wrote self.old (verdict_line verdict) self.new }
+    {
+        match verdict {
+            Verdict::Refused(refusal) => self.refused(refusal),
+            Verdict::Schedulable => self.append(b"schedulable\n"),
+            Verdict::Late(first) => self.line_with_number(b"late ", first.0 as u64),
+        }
+    }
+
+    // A refusal's one line.
+    pub fn refused(&mut self, refusal: Refusal)
+        ensures { Wrote self.old (refused_line refusal) self.new }
+    {
+        self.refusal_line(tables::number(refusal), tables::place(refusal));
+    }
+
+    // The same by the refusal's number and place.
+    pub fn refusal_line(&mut self, number: u32, place: usize)
+        ensures { Wrote self.old (refusal_line number place) self.new }
+    {
+        self.append_with_number(b"refused ", u64::from(number));
+        self.line_with_number(b" at ", place as u64);
+    }
+
+    // The number of tasks, and a line for each, with the label in front of its last number.
+    pub fn tasks(&mut self, table: &[u8], label: &[u8], answers: &[u32], counts: &[u32])
+        ensures { Wrote self.old (tasks_text label.now table.now answers.now counts.now) self.new }
+    {
+        let n = task_count(table);
+        self.line_with_number(b"tasks ", n as u64);
+        for i in 0..n {
+            let place = Place(i);
+            let answer = Ticks(word(answers, place));
+            let due = deadline(table, place);
+            self.task(label, place, answer, due, word(counts, place));
+        }
+    }
+
+    // One task's line.
+    fn task(&mut self, label: &[u8], place: Place, answer: Ticks, deadline: Ticks, count: u32)
+        ensures { Wrote self.old (task_line label.now place.0 answer.0 deadline.0 count) self.new }
+    {
+        self.append_number(place.0 as u64);
+        self.response(answer);
+        self.append_with_number(b" deadline ", u64::from(deadline.0));
+        self.line_with_number(label, u64::from(count));
+    }
+
+    // An answer of 0 is late, and the open word is open.
+    fn response(&mut self, answer: Ticks)
+        ensures { Wrote self.old (response_text answer.0) self.new }
+    {
+        match answer.0 {
+            0 => self.append(b" late"),
+            OPEN => self.append(b" open"),
+            ticks => self.append_with_number(b" response ", u64::from(ticks)),
+        }
     }
 }
 
@@ -77,103 +117,22 @@ pub fn verdict_line(out: &mut [u8], at: usize, verdict: Verdict) -> usize
 pub fn task_count(table: &[u8]) -> usize
     ensures { (result ≡ task_count table.now) × (result < 256) }
 {
-    if table.len() <= TASK_COUNT_AT {
-        return 0;
-    }
-    tables::fields::count(table[TASK_COUNT_AT])
-}
-
-// Appends a line of a word and a number.
-pub fn line_with_number(out: &mut [u8], at: usize, word: &[u8], number: u64) -> usize
-    ensures { Appended out.old at (line_with_number word.now number) result out.new }
-{
-    let next = append_with_number(out, at, word, number);
-    append(out, next, b"\n")
-}
-
-// A refusal's one line.
-pub fn refused(out: &mut [u8], at: usize, refusal: Refusal) -> usize
-    ensures { Appended out.old at (refused_line refusal) result out.new }
-{
-    refusal_line(out, at, tables::number(refusal), tables::place(refusal))
-}
-
-// The same by the refusal's number and place.
-pub fn refusal_line(out: &mut [u8], at: usize, number: u32, place: usize) -> usize
-    ensures { Appended out.old at (refusal_line number place) result out.new }
-{
-    let next = append_with_number(out, at, b"refused ", number as u64);
-    line_with_number(out, next, b" at ", place as u64)
-}
-
-// The number of tasks, and a line for each, with the label in front of its last number.
-pub fn tasks(
-    out: &mut [u8],
-    at: usize,
-    table: &[u8],
-    label: &[u8],
-    answers: &[u32],
-    counts: &[u32],
-) -> usize
-    ensures { Appended out.old at (tasks_text label.now table.now answers.now counts.now) result out.new }
-{
-    let n = task_count(table);
-    let mut next = line_with_number(out, at, b"tasks ", n as u64);
-    for i in 0..n {
-        let place = Place(i);
-        next = task(
-            out,
-            next,
-            label,
-            place,
-            Ticks(word(answers, place)),
-            deadline(table, place),
-            word(counts, place),
-        );
-    }
-    next
-}
-
-// One task's line.
-fn task(
-    out: &mut [u8],
-    at: usize,
-    label: &[u8],
-    place: Place,
-    answer: Ticks,
-    deadline: Ticks,
-    count: u32,
-) -> usize
-    ensures { Appended out.old at (task_line label.now place.0 answer.0 deadline.0 count) result out.new }
-{
-    let placed = append_number(out, at, place.0 as u64);
-    let answered = response(out, placed, answer);
-    let next = append_with_number(out, answered, b" deadline ", deadline.0 as u64);
-    line_with_number(out, next, label, count as u64)
-}
-
-// An answer of 0 is late, and the open word is open.
-fn response(out: &mut [u8], at: usize, answer: Ticks) -> usize
-    ensures { Appended out.old at (response_text answer.0) result out.new }
-{
-    if answer.0 == 0 {
-        append(out, at, b" late")
-    } else if answer.0 == OPEN {
-        append(out, at, b" open")
-    } else {
-        append_with_number(out, at, b" response ", answer.0 as u64)
+    match table.get(TASK_COUNT_AT) {
+        Some(byte) => tables::fields::count(*byte),
+        None => 0,
     }
 }
 
 // The deadline of the record at a place; 0 where the table ends before it does, as no accepted table does.
+#[tactic(auto, using(crate::proofs::TextLaws::deadline_near))]
 fn deadline(table: &[u8], place: Place) -> Ticks
     requires { place.0 < 256 }
     ensures { result.0 ≡ deadline_shown table.now place.0 }
 {
-    if table.len() < HEAD_SIZE {
+    let Some(version) = table.get(VERSION_AT) else {
         return Ticks(0);
-    }
-    let layout = tables::layout::of(table[VERSION_AT]);
+    };
+    let layout = tables::layout::of(*version);
     let at = HEAD_SIZE + layout.size * place.0 + DEADLINE_AT;
     if table.len() < at + 4 {
         return Ticks(0);
@@ -185,6 +144,5 @@ fn deadline(table: &[u8], place: Place) -> Ticks
 pub fn word(words: &[u32], place: Place) -> u32
     ensures { result ≡ get_or words.now place.0 0 }
 {
-    let i = place.0;
-    if i < words.len() { words[i] } else { 0 }
+    words.get(place.0).copied().unwrap_or(0)
 }

@@ -4,7 +4,7 @@ use Rattle.std.specs.Prelude.{ℕ, ◌≡◌, true, List, length}
 use Rattle.reporting.specs.declared.Report.{Report}
 use Rattle.reporting.specs.Streaming.{Behind, closed_by}
 use Rattle.report.specs.declared.Input.{Input}
-use Rattle.report.specs.declared.Input.TheVariants.{Failed, Unwritten, TooLong, Read, Closed}
+use Rattle.report.specs.declared.Input.TheVariants.{Read, Closed}
 
 -- What is kept is what is kept behind so many bytes, all that were read. (That they are those on standard input can't be said: the contract
 -- of the system's read says nothing of the bytes.)
@@ -14,11 +14,8 @@ pub record BehindRead (report : Report) (total : ℕ) (store : List ℕ) : Type 
   pub long : length bytes ≡ total
   pub behind : Behind old bytes report store
 
--- nothing is known where it was not read
+-- where it was read (of a failure nothing is said)
 abbrev pub input_read : Input → List ℕ → Type 0
-input_read (Failed error) store = Unit
-input_read (Unwritten error) store = Unit
-input_read TooLong store = Unit
 input_read (Read report total) store = BehindRead report total store
 -- and here the report is closed: what is still to come changes nothing (`ClosedEarly`, in crates/reporting/specs/Streaming.antt)
 input_read (Closed report total) store = BehindRead report total store × (closed_by report ≡ true)

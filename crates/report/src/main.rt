@@ -2,45 +2,48 @@
 // whole (SPECIFICATION 13.12; document 02, L10). It keeps the table at hand and three counts, however long the input is.
 #![tactic(auto)]
 
-ghost use Rattle.std.specs.Prelude.{◌≡◌, ◌≤◌, length};
+ghost use Rattle.std.specs.Prelude.{◌≡◌, ◌≤◌, length, IfOk};
 ghost use Rattle.printing.specs.Longest.{Whole};
 ghost use Rattle.reporting.specs.Streaming.{store_size, GoesOn, Countable, closing_by, lines_room};
 ghost use Rattle.reporting.specs.Longest.{closing_room};
 ghost use Rattle.report.specs.Input.{input_read};
 
 use reporting::{Report, Told};
-use std::io::{Error, Read, Result};
+use std::io::{self, Error, Read};
 use streams::fail;
 
 // A proved count of bytes has to end somewhere, and no input is that long: 2^63 bytes.
 const MOST_BYTES: usize = 9223372036854775808;
 
-// What became of the input: so many bytes of it were read, to its end, or to where they close the report; or why they were not.
+// What was read of the input: so many bytes, to its end, or to where they close the report.
 #[derive(Clone, Copy)]
 enum Input {
-    Failed(Error),
-    Unwritten(Error),
-    TooLong,
     Read(Report, usize),
     Closed(Report, usize),
 }
 
-fn main(rt: HostRuntime) -> Result<()> {
+// Why it was not read so far.
+#[derive(Clone, Copy)]
+enum Failure {
+    Unread(Error),
+    Unwritten(Error),
+    TooLong,
+}
+
+fn main(rt: HostRuntime) -> io::Result<()> {
     let mut store = [0u8; reporting::STORE];
-    let input = report_all(rt, &mut store);
-    match input {
-        Input::Failed(error) => fail(rt, b"the tables", error),
-        Input::Unwritten(error) => fail(rt, b"the report", error),
-        Input::TooLong => say_too_long(rt),
-        Input::Read(report, _) => close(rt, report),
-        Input::Closed(report, _) => close(rt, report),
+    match report_all(rt, &mut store) {
+        Ok(Input::Read(report, _) | Input::Closed(report, _)) => close(rt, report),
+        Err(Failure::Unread(error)) => fail(rt, b"the tables", error),
+        Err(Failure::Unwritten(error)) => fail(rt, b"the report", error),
+        Err(Failure::TooLong) => say_too_long(rt),
     }
 }
 
 // Reads standard input piece by piece, and writes the lines of the tables that end in each piece before it reads the next.
-fn report_all(rt: HostRuntime, store: &mut [u8]) -> Input
+fn report_all(rt: HostRuntime, store: &mut [u8]) -> Result<Input, Failure>
     requires { length store.old ≡ store_size }
-    ensures { input_read result store.new }
+    ensures { IfOk result (λ input. input_read input store.new) }
 {
     let mut input = rt.stdin();
     let mut piece = [0u8; 4096];
@@ -48,24 +51,19 @@ fn report_all(rt: HostRuntime, store: &mut [u8]) -> Input
     let mut report = reporting::begin();
     let mut total: usize = 0;
     while total < MOST_BYTES {
-        let taken = match input.read(&mut piece) {
-            Ok(count) => count,
-            Err(error) => return Input::Failed(error),
-        };
+        let taken = input.read(&mut piece).map_err(Failure::Unread)?;
         if taken == 0 {
-            return Input::Read(report, total);
+            return Ok(Input::Read(report, total));
         }
         let told = lines(report, &piece[..taken], store, &mut out);
-        if let Err(error) = rt.write_all(&out[..told.end]) {
-            return Input::Unwritten(error);
-        }
+        rt.write_all(&out[..told.end]).map_err(Failure::Unwritten)?;
         report = told.report;
-        total = total + taken;
+        total += taken;
         if reporting::is_closed(report) {
-            return Input::Closed(report, total);
+            return Ok(Input::Closed(report, total));
         }
     }
-    Input::TooLong
+    Err(Failure::TooLong)
 }
 
 // Puts the lines of the tables that end in a piece, all of them whole, into a buffer that has room.
@@ -78,13 +76,13 @@ fn lines(report: Report, more: &[u8], store: &mut [u8], out: &mut [u8]) -> Told
     reporting::go_on(report, more, store, out, 0)
 }
 
-fn say_too_long(rt: HostRuntime) -> Result<()> {
+fn say_too_long(rt: HostRuntime) -> io::Result<()> {
     rt.stderr()
         .write_all(b"the tables have 2^63 bytes or more\n")
 }
 
 // Writes the totals, and that the input is broken where it is.
-fn close(rt: HostRuntime, report: Report) -> Result<()> {
+fn close(rt: HostRuntime, report: Report) -> io::Result<()> {
     let mut out = [0u8; 4096];
     let end = closing(report, &mut out);
     rt.write_all(&out[..end])

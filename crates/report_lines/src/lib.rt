@@ -4,12 +4,12 @@
 
 ghost use Rattle.std.specs.Prelude.{◌≡◌, ◌++◌};
 ghost use Rattle.tables.specs.Meaning.{TableRight};
-ghost use Rattle.printing.specs.Appended.{Appended};
+ghost use Rattle.printing.specs.Page.{Wrote};
 ghost use Rattle.printing.specs.Text.{bytes_of, refused_line};
 ghost use Rattle.report_lines.specs.Line.{judged_as, multiple_text, figures_text, line_of};
 
 use multiples::{Multiple, hyperperiod};
-use printing::{append, append_number, append_with_number, line_with_number, refused};
+use printing::Page;
 use response::Verdict;
 use tables::fields::count;
 use tables::{Refusal, TASK_COUNT_AT};
@@ -24,45 +24,45 @@ pub fn judge(table: &[u8]) -> Verdict
     response::analyse(table, &mut answers, &mut rounds)
 }
 
-// Appends the line of a table whose verdict is known, and answers where the next byte goes.
-pub fn table_line(out: &mut [u8], at: usize, number: u64, table: &[u8], verdict: Verdict) -> usize
+// Appends the line of a table whose verdict is known.
+pub fn table_line(page: &mut Page, number: u64, table: &[u8], verdict: Verdict)
     requires { verdict ≡ judged_as table.now }
-    ensures { Appended out.old at (line_of number table.now) result out.new }
+    ensures { Wrote page.old (line_of number table.now) page.new }
 {
-    let next = append_number(out, at, number);
+    page.append_number(number);
     match verdict {
-        Verdict::Refused(refusal) => refused_text(out, next, refusal),
-        Verdict::Schedulable => good_text(out, next, b" schedulable", table),
-        Verdict::Late(_) => good_text(out, next, b" late", table),
+        Verdict::Refused(refusal) => refused_text(page, refusal),
+        Verdict::Schedulable => good_text(page, b" schedulable", table),
+        Verdict::Late(_) => good_text(page, b" late", table),
     }
 }
 
 // A refusal, behind the table's number.
-fn refused_text(out: &mut [u8], at: usize, refusal: Refusal) -> usize
-    ensures { Appended out.old at (bytes_of " " ++ refused_line refusal) result out.new }
+fn refused_text(page: &mut Page, refusal: Refusal)
+    ensures { Wrote page.old (bytes_of " " ++ refused_line refusal) page.new }
 {
-    let next = append(out, at, b" ");
-    refused(out, next, refusal)
+    page.append(b" ");
+    page.refused(refusal);
 }
 
 // The word of the verdict and the figures of a table within the rules.
-fn good_text(out: &mut [u8], at: usize, word: &[u8], table: &[u8]) -> usize
+fn good_text(page: &mut Page, word: &[u8], table: &[u8])
     requires { TableRight table.now }
-    ensures { Appended out.old at (word.now ++ figures_text table.now) result out.new }
+    ensures { Wrote page.old (word.now ++ figures_text table.now) page.new }
 {
-    let told = append(out, at, word);
-    let used = append_with_number(out, told, b" utilisation ", utilisation(table));
-    let n = count(table[TASK_COUNT_AT]);
-    let limited = append_with_number(out, used, b" bound ", bound(n) as u64);
-    multiple_text(out, limited, hyperperiod(table))
+    page.append(word);
+    page.append_with_number(b" utilisation ", utilisation(table));
+    let tasks = count(table[TASK_COUNT_AT]);
+    page.append_with_number(b" bound ", u64::from(bound(tasks)));
+    multiple_text(page, hyperperiod(table));
 }
 
 // The least common multiple of the periods, at the line's end.
-fn multiple_text(out: &mut [u8], at: usize, multiple: Multiple) -> usize
-    ensures { Appended out.old at (multiple_text multiple) result out.new }
+fn multiple_text(page: &mut Page, multiple: Multiple)
+    ensures { Wrote page.old (multiple_text multiple) page.new }
 {
     match multiple {
-        Multiple::Number(number) => line_with_number(out, at, b" hyperperiod ", number),
-        Multiple::Over => append(out, at, b" hyperperiod over\n"),
+        Multiple::Number(number) => page.line_with_number(b" hyperperiod ", number),
+        Multiple::Over => page.append(b" hyperperiod over\n"),
     }
 }

@@ -1,13 +1,10 @@
--- What stands behind the tables' lines, and how many bytes are taken of those that are left.
+-- What stands behind the tables' lines.
 -- Assumes nothing.
-use Prim.Native.Nat.{ℕ, ◌-◌, ◌≤◌, ◌<◌, min}
-use native.Mathlib.Omega.{arith}
-use mathlib.Core.Path.{◌≡◌, refl, sym, ◌∙◌, ap}
+use Prim.Native.Nat.{ℕ, ◌≤◌, ◌<◌}
+use mathlib.Core.Path.{◌≡◌, sym, ◌∙◌, ap}
 use mathlib.Core.Bool.{Bool}
 use mathlib.Core.List.{List, ◌++◌, append-nil}
-use lib.Dec.{ltb}
 use borrow.Author.Tests.{lt-ltb, le-ltb}
-use Rattle.model.specs.Choice.{pick}
 use Rattle.printing.specs.Text.{bytes_of}
 use Rattle.reporting.specs.declared.Report.{Report}
 use Rattle.reporting.specs.Report.{totals_line, broken_line}
@@ -24,13 +21,3 @@ module _ (report : Report) where
   pub closing_whole : report.come ≤ 0 → totals_line report.schedulable report.late report.refused ≡ closing_by report
   unfolding totals
   closing_whole h = sym (append-nil totals) ∙ ap (λ (b : Bool). totals ++ broken_line b) (sym (le-ltb 0 report.come h))
-
-module _ (come due left : ℕ) where
-  pub wanted_all : due ≤ come → left ≡ pick (ltb come due) (min (due - come) left) left
-  wanted_all h = rw (le-ltb come due h) refl
-
-  pub wanted_due : come < due → due - come < left → due - come ≡ pick (ltb come due) (min (due - come) left) left
-  wanted_due h k = rw (lt-ltb come due h) (omega (arith, k))
-
-  pub wanted_left : come < due → left ≤ due - come → left ≡ pick (ltb come due) (min (due - come) left) left
-  wanted_left h k = rw (lt-ltb come due h) (omega (arith, k))

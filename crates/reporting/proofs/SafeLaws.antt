@@ -4,18 +4,18 @@ use Prim.Native.Nat.{ℕ, ◌+◌, ◌*◌, ◌-◌, ◌≤◌, ◌<◌, min}
 use native.Mathlib.Omega.{arith}
 use mathlib.Core.Path.{◌≡◌, refl, sym, ◌∙◌, ap, subst}
 use mathlib.Core.Logic.{inl, inr}
-use mathlib.Core.List.{List, [], ◌∷◌, ◌++◌, flatten}
+use mathlib.Core.List.{List, [], ◌∷◌, ◌++◌, flatten, append_assoc, append-nil}
 use lib.Dec.{ltb}
-use lib.ListN.{length, take, drop, length-append, length-take, length-drop}
-use lib.Seq.{take_all, take-add}
+use lib.ListN.{length, take, length-append, length-take}
+use lib.Seq.{take_all}
 use Rattle.model.specs.Choice.{pick}
 use Rattle.model.proofs.Tests.{ltb?}
 use Rattle.printing.specs.Appended.{Appended}
 use Rattle.printing.proofs.AppendLaws.{ends_within, part_length}
 use Rattle.reporting.specs.declared.Report.{Report}
-use Rattle.reporting.specs.declared.Told.{Told}
+use Rattle.printing.specs.declared.page.Page.{Page}
 use Rattle.reporting.specs.Cutting.{tables_in, left_in, AllStated}
-use Rattle.reporting.specs.Streaming.{begun, store_size, GoesOn, Countable, CountableBegun, counted_in}
+use Rattle.reporting.specs.Streaming.{begun, store_size, Tells, Countable, CountableBegun, counted_in}
 use Rattle.reporting.proofs.CuttingLaws.{is_cut}
 use Rattle.reporting.proofs.StreamLaws.{behind_none, counted_tables, new_long, come_head, goes_none, goes_then}
 
@@ -86,69 +86,58 @@ module _ (come due left : ℕ) {count : ℕ} (e : count ≡ pick (ltb come due) 
         | inr p ↦ omega (arith, rw p.0 at e, h)
       ]
 
--- The loop of `go_on`: so many bytes are used.
-pub record Going (more store₀ out₀ : List ℕ) (told₀ : Told) (store out : List ℕ) (told : Told) (used : ℕ) : Type 0 where
-  pub goes : GoesOn told₀.report store₀ (take used more) out₀ told₀.end told store out
-  pub within : used ≤ length more
-  pub store_long : length store ≡ length store₀
-  pub out_long : length out ≡ length out₀
-  pub countable : Countable told₀.report store₀ (length more)
+-- The loop of `take_all`: these bytes are taken.
+pub record Going (more store₀ : List ℕ) (report₀ : Report) (page₀ : Page) (store : List ℕ) (report : Report) (page : Page) (left : List ℕ) : Type 0 where
+  pub taken : List ℕ
+  pub whole : taken ++ left ≡ more
+  pub tells : Tells report₀ store₀ taken page₀ report store page
+  pub countable : Countable report₀ store₀ (length more)
 
-pub going_none : (more store out : List ℕ) (told : Told) → Countable told.report store (length more) → Going more store out told store out told 0
-going_none more store out told c =
+pub going_none : (more store : List ℕ) (report : Report) (page : Page) → Countable report store (length more) →
+    Going more store report page store report page more
+going_none more store report page c =
     record {
-      goes = goes_none told.report store out told.end;
-      within = omega arith;
-      store_long = refl;
-      out_long = refl;
+      taken = [];
+      whole = refl;
+      tells = record { goes = goes_none report store page.out.now page.at; same_buffer = refl };
       countable = c;
     }
 
-module _ {more store₀ out₀ store out : List ℕ} {told₀ told : Told} {used : ℕ} (g : Going more store₀ out₀ told₀ store out told used) where
-  -- a part that is taken
-  pub part_long : (count : ℕ) → used + count ≤ length more → length (take (used + count - used) (drop used more)) ≡ count
-  part_long count h = omega (arith, length-take (used + count - used) (drop used more), length-drop used more, h)
-
+module _ {more store₀ store left : List ℕ} {report₀ report : Report} {page₀ page : Page} (g : Going more store₀ report₀ page₀ store report page left) where
   -- what is left can still be counted
-  pub going_countable : (count : ℕ) → used + count ≤ length more → Countable told.report store count
+  pub going_countable : (count : ℕ) → count ≤ length left → Countable report store (length (take count left))
   going_countable count h =
       let c = g.countable in
       record {
         old = c.old;
-        bytes = c.bytes ++ take used more;
-        behind = g.goes.behind c.old c.bytes c.behind;
-        few = omega (arith, length-append c.bytes (take used more), length-take used more, c.few, h);
+        bytes = c.bytes ++ g.taken;
+        behind = g.tells.goes.behind c.old c.bytes c.behind;
+        few =
+            omega (
+              arith,
+              length-append c.bytes g.taken,
+              length-append g.taken left,
+              ap (λ (xs : List ℕ). length xs) g.whole,
+              length-take count left,
+              c.few,
+              h,
+            );
       }
 
-  -- what is taken lies within the bytes
-  pub used_within : (come due : ℕ) {count : ℕ} → count ≡ pick (ltb come due) (min (due - come) (length more - used)) (length more - used) →
-      used + count ≤ length more
-  used_within come due e = omega (arith, taken_left come due (length more - used) e, g.within)
-
-  pub going_part : (count : ℕ) → used + count ≤ length more →
-      Countable told.report store (length (take (used + count - used) (drop used more)))
-  going_part count h = going_countable (length (take (used + count - used) (drop used more))) (omega (arith, part_long count h, h))
-
-  pub going_more : (count : ℕ) → used + count ≤ length more → {kept written : List ℕ} {next : Told} →
-      GoesOn told.report store (take (used + count - used) (drop used more)) out told.end next kept written →
-      length kept ≡ length store → length written ≡ length out → Going more store₀ out₀ told₀ kept written next (used + count)
-  going_more count h {kept} {written} {next} k s o =
-      let e : used + count - used ≡ count = omega arith in
-      let both : take used more ++ take (used + count - used) (drop used more) ≡ take (used + count) more =
-      ap (λ (n : ℕ). take used more ++ take n (drop used more)) e ∙ sym (take-add used count more) in
+  pub going_more : (now later : List ℕ) → left ≡ now ++ later → {kept : List ℕ} {told : Report} {new : Page} →
+      Tells report store now page told kept new → Going more store₀ report₀ page₀ kept told new later
+  going_more now later e t =
       record {
-        goes =
-            subst (λ (xs : List ℕ). GoesOn told₀.report store₀ xs out₀ told₀.end next kept written) both
-            (goes_then (take (used + count - used) (drop used more)) g.goes k);
-        within = h;
-        store_long = s ∙ g.store_long;
-        out_long = o ∙ g.out_long;
+        taken = g.taken ++ now;
+        whole = append_assoc g.taken now later ∙ ap (λ (xs : List ℕ). g.taken ++ xs) (sym e) ∙ g.whole;
+        tells = record { goes = goes_then now g.tells.goes t.goes; same_buffer = t.same_buffer ∙ g.tells.same_buffer };
         countable = g.countable;
       }
 
-  pub going_all : length more ≤ used → GoesOn told₀.report store₀ more out₀ told₀.end told store out
+  pub going_all : length left ≤ 0 → Tells report₀ store₀ more page₀ report store page
   going_all h =
-      subst (λ (xs : List ℕ). GoesOn told₀.report store₀ xs out₀ told₀.end told store out) (take_all used more h) g.goes
+      subst (λ (xs : List ℕ). Tells report₀ store₀ xs page₀ report store page)
+      (sym (append-nil g.taken) ∙ ap (λ (xs : List ℕ). g.taken ++ xs) (take_all 0 left h) ∙ g.whole) g.tells
 
 pub countable_begun : CountableBegun
 countable_begun store more room few =

@@ -10,6 +10,7 @@ use Rattle.tables.specs.declared.Refusal.{Refusal}
 use Rattle.answering.specs.declared.Verdict.{Verdict}
 use Rattle.answering.specs.declared.Verdict.TheVariants.{Refused}
 use Rattle.printing.specs.Appended.{Appended, bytes_after}
+use Rattle.printing.specs.declared.page.Page.{Page}
 use Rattle.report_lines.specs.Line.{judged_as}
 use Rattle.reporting.specs.declared.Report.{Report}
 use Rattle.reporting.specs.declared.Told.{Told}
@@ -69,6 +70,11 @@ lines_more bytes more = lines_from (length (tables_in bytes)) (tables_in (left_i
 pub record GoesOn (report : Report) (store more out : List ℕ) (at : ℕ) (told : Told) (kept written : List ℕ) : Type 0 where
   pub behind : (old bytes : List ℕ) → Behind old bytes report store → Behind old (bytes ++ more) told.report kept
   pub lines : (old bytes : List ℕ) → Behind old bytes report store → Appended out at (lines_more bytes more) told.end written
+
+-- the same, where the text stands on a page
+pub record Tells (report : Report) (store more : List ℕ) (page : Page) (told : Report) (kept : List ℕ) (new : Page) : Type 0 where
+  pub goes : GoesOn report store more page.out.now page.at (record { report = told; end = new.at }) kept new.out.now
+  pub same_buffer : new.out.ghost_name ≡ page.out.ghost_name
 
 -- so many bytes may come: with those that came before they are not too many to be counted
 pub record Countable (report : Report) (store : List ℕ) (more : ℕ) : Type 0 where

@@ -6,11 +6,12 @@ ghost use Rattle.std.specs.Prelude.{◌≡◌, ◌+◌, ◌-◌, ◌≤◌, ◌<
 ghost use Rattle.model.specs.Choice.{pick};
 ghost use Rattle.tables.specs.Layout.{stated_length};
 ghost use Rattle.printing.specs.Appended.{Appended};
+ghost use Rattle.printing.specs.Page.{Wrote};
 ghost use Rattle.report_lines.specs.Line.{judged_as, line_of};
 ghost use Rattle.reporting.specs.Report.{report_of};
-ghost use Rattle.reporting.specs.Streaming.{begun, gathered_to, fresh_with, counted_in, counted_by, GoesOn, Countable, closed_by, closing_by};
+ghost use Rattle.reporting.specs.Streaming.{begun, counted_in, counted_by, GoesOn, Tells, Countable, closed_by, closing_by};
 
-use printing::{append, append_with_number, line_with_number};
+use printing::{Page, append};
 use report_lines::{judge, table_line};
 use response::Verdict;
 use tables::HEAD_SIZE;
@@ -23,7 +24,7 @@ pub const STORE: usize = 4589;
 const STATED_AT: usize = 1;
 
 // What is kept between two pieces of the file.
-#[derive(Clone, Copy)]
+#[derive(Clone, Copy, Debug, PartialEq, Eq)]
 pub struct Report {
     pub schedulable: u64,
     pub late: u64,
@@ -35,7 +36,7 @@ pub struct Report {
 }
 
 // What is kept, and where the text ends.
-#[derive(Clone, Copy)]
+#[derive(Clone, Copy, Debug, PartialEq, Eq)]
 pub struct Told {
     pub report: Report,
     pub end: usize,
@@ -45,7 +46,14 @@ pub struct Told {
 pub fn begin() -> Report
     ensures { result ≡ begun }
 {
-    fresh(0, 0, 0)
+    Report {
+        schedulable: 0,
+        late: 0,
+        refused: 0,
+        come: 0,
+        due: HEAD_SIZE,
+        kept: 0,
+    }
 }
 
 // Is told of more bytes: appends the lines of the tables that end in them, and answers what is kept and where the text ends.
@@ -53,58 +61,66 @@ pub fn go_on(report: Report, more: &[u8], store: &mut [u8], out: &mut [u8], at: 
     requires { Countable report store.old (length more.now) }
     ensures { GoesOn report store.old more.now out.old at result store.new out.new }
 {
-    let mut told = Told {
-        report: report,
-        end: at,
-    };
-    let mut used: usize = 0;
-    while used < more.len() {
-        let before = told.report;
-        let count = wanted(before.come, before.due, more.len() - used);
-        told = take_in(before, &more[used..used + count], store, out, told.end);
-        used = used + count;
+    let mut page = Page { out, at };
+    let report = take_all(report, more, store, &mut page);
+    Told {
+        report,
+        end: page.at,
     }
-    told
+}
+
+// Takes the bytes, so many at a time as belong to one table.
+fn take_all(report: Report, more: &[u8], store: &mut [u8], page: &mut Page) -> Report
+    requires { Countable report store.old (length more.now) }
+    ensures { Tells report store.old more.now page.old result store.new page.new }
+{
+    let mut report = report;
+    let mut left = more;
+    while !left.is_empty() {
+        let (now, later) = left.split_at(wanted(report.come, report.due, left.len()));
+        report = take_in(report, now, store, page);
+        left = later;
+    }
+    report
 }
 
 // How many of the bytes that are left belong to the table at hand: no more than are due. A report that is closed takes all.
 fn wanted(come: usize, due: usize, left: usize) -> usize
     ensures { result ≡ pick (ltb come due) (min (due - come) left) left }
 {
-    if due <= come {
-        return left;
+    if come < due {
+        left.min(due - come)
+    } else {
+        left
     }
-    if due - come < left {
-        return due - come;
-    }
-    left
 }
 
 // Takes bytes of the table at hand, and ends it where it is whole.
-fn take_in(report: Report, more: &[u8], store: &mut [u8], out: &mut [u8], at: usize) -> Told
+fn take_in(report: Report, more: &[u8], store: &mut [u8], page: &mut Page) -> Report
     requires countable { Countable report store.old (length more.now) }
     requires more_bound { report.come < report.due → report.come + length more.now ≤ report.due }
-    ensures { GoesOn report store.old more.now out.old at result store.new out.new }
+    ensures { Tells report store.old more.now page.old result store.new page.new }
 {
     let kept = append(store, report.kept, more);
     let come = report.come + more.len();
     if come != report.due {
-        let longer = gathered(report, come, report.due, kept);
-        return Told {
-            report: longer,
-            end: at,
+        return Report {
+            come,
+            kept,
+            ..report
         };
     }
     // of a table whose head has just come this is the first look at the length that it states
     let stated = stated_length(store);
     if stated != come {
-        let longer = gathered(report, come, stated, kept);
-        return Told {
-            report: longer,
-            end: at,
+        return Report {
+            come,
+            due: stated,
+            kept,
+            ..report
         };
     }
-    end_table(report, &store[..kept], out, at)
+    end_table(report, &store[..kept], page)
 }
 
 // The length that a table states in its head.
@@ -115,34 +131,16 @@ fn stated_length(table: &[u8]) -> usize
     half(table, STATED_AT) as usize
 }
 
-// The same counts, with more of the table at hand.
-fn gathered(report: Report, come: usize, due: usize, kept: usize) -> Report
-    ensures { result ≡ gathered_to report come due kept }
-{
-    Report {
-        schedulable: report.schedulable,
-        late: report.late,
-        refused: report.refused,
-        come: come,
-        due: due,
-        kept: kept,
-    }
-}
-
 // Appends the line of a table that is whole, and counts it.
-fn end_table(report: Report, table: &[u8], out: &mut [u8], at: usize) -> Told
+fn end_table(report: Report, table: &[u8], page: &mut Page) -> Report
     requires { counted_in report + 1 < 18446744073709551616 }
-    ensures report_value { result.report ≡ counted_by report (judged_as table.now) }
-    ensures appended { Appended out.old at (line_of (counted_in report) table.now) result.end out.new }
+    ensures report_value { result ≡ counted_by report (judged_as table.now) }
+    ensures wrote { Wrote page.old (line_of (counted_in report) table.now) page.new }
 {
     let verdict = judge(table);
     let number = report.schedulable + report.late + report.refused;
-    let end = table_line(out, at, number, table, verdict);
-    let next = counted(report, verdict);
-    Told {
-        report: next,
-        end: end,
-    }
+    table_line(page, number, table, verdict);
+    counted(report, verdict)
 }
 
 // Counts a table by its verdict; the next one begins.
@@ -150,27 +148,25 @@ fn counted(report: Report, verdict: Verdict) -> Report
     requires { counted_in report + 1 < 18446744073709551616 }
     ensures { result ≡ counted_by report verdict }
 {
-    let schedulable = report.schedulable;
-    let late = report.late;
-    let refused = report.refused;
-    match verdict {
-        Verdict::Refused(_) => fresh(schedulable, late, refused + 1),
-        Verdict::Schedulable => fresh(schedulable + 1, late, refused),
-        Verdict::Late(_) => fresh(schedulable, late + 1, refused),
-    }
-}
-
-// These counts, and nothing yet of the next table.
-fn fresh(schedulable: u64, late: u64, refused: u64) -> Report
-    ensures { result ≡ fresh_with schedulable late refused }
-{
-    Report {
-        schedulable: schedulable,
-        late: late,
-        refused: refused,
+    let next = Report {
         come: 0,
         due: HEAD_SIZE,
         kept: 0,
+        ..report
+    };
+    match verdict {
+        Verdict::Refused(_) => Report {
+            refused: report.refused + 1,
+            ..next
+        },
+        Verdict::Schedulable => Report {
+            schedulable: report.schedulable + 1,
+            ..next
+        },
+        Verdict::Late(_) => Report {
+            late: report.late + 1,
+            ..next
+        },
     }
 }
 
@@ -185,13 +181,20 @@ pub fn is_closed(report: Report) -> bool
 pub fn finish(report: Report, out: &mut [u8], at: usize) -> usize
     ensures { Appended out.old at (closing_by report) result out.new }
 {
-    let first = append_with_number(out, at, b"schedulable ", report.schedulable);
-    let second = append_with_number(out, first, b" late ", report.late);
-    let next = line_with_number(out, second, b" refused ", report.refused);
+    let mut page = Page { out, at };
+    close(&mut page, report);
+    page.at
+}
+
+fn close(page: &mut Page, report: Report)
+    ensures { Wrote page.old (closing_by report) page.new }
+{
+    page.append_with_number(b"schedulable ", report.schedulable);
+    page.append_with_number(b" late ", report.late);
+    page.line_with_number(b" refused ", report.refused);
     if 0 < report.come {
-        return append(out, next, b"broken\n");
+        page.append(b"broken\n");
     }
-    next
 }
 
 // The report of a file that is lent whole, at the buffer's beginning; answers where it ends.

@@ -3,17 +3,18 @@
 use Rattle.std.specs.Prelude.{Ok}
 use Prim.Native.Nat.{ℕ, ◌+◌, ◌*◌, ◌≤◌, ◌<◌}
 use native.Mathlib.Omega.{arith}
-use mathlib.Core.Path.{◌≡◌, ◌∙◌, ap}
+use mathlib.Core.Path.{◌≡◌, refl, ◌∙◌, ap}
 use mathlib.Core.List.{List}
 use lib.ListN.{length, replicate, length-replicate}
 use Rattle.model.specs.Tables.{Task, Row}
 use Rattle.tables.specs.declared.layout.Layout.{Layout}
-use Rattle.tables.specs.Layout.{layout_of, task_count, row_count, record_from, row_from, record_start, row_start, task_at, row_at}
+use Rattle.tables.specs.Layout.{Sound, layout_of, task_count, row_count, record_from, row_from, record_start, row_start, task_at, row_at}
 use Rattle.tables.specs.Checks.{head_check}
 use Rattle.tables.proofs.LayoutLaws.{record_inside, start_small}
+use Rattle.tables.proofs.CheckLaws.{head_right}
 use Rattle.records.specs.Reading.{HeadRead}
 use Rattle.records.specs.Columns.{Lent}
-use Rattle.records.proofs.ColumnLaws.{sound, few_tasks_law, few_rows_law, rows_end}
+use Rattle.records.proofs.ColumnLaws.{sound, few_tasks_law, rows_end}
 use Rattle.reading.proofs.HeldLaws.{large_fits}
 
 -- columns for 200 tasks have room for any table
@@ -30,30 +31,37 @@ pub head_read : {bytes : List ℕ} {layout : Layout} {n : ℕ} → head_check by
     HeadRead bytes layout n
 head_read clean decided counted = record { head = clean; decided = decided; counted = counted }
 
-module _ (bytes : List ℕ) (layout : Layout) (n : ℕ) (h : HeadRead bytes layout n) where
-  -- nothing begins far on
-  pub records_near : layout.size * n ≤ 5355
-  records_near = omega (arith, start_small layout (sound bytes layout n h) {n = n} (few_tasks_law bytes layout n h))
+-- the head has come
+pub head_long : (bytes : List ℕ) → head_check bytes ≡ Ok tt → 5 ≤ length bytes
+head_long bytes clean = (head_right bytes clean).long_enough
 
-  module _ (i : ℕ) (inside : i < n) where
+module _ (bytes : List ℕ) (layout : Layout) (clean : head_check bytes ≡ Ok tt) (decided : layout ≡ layout_of bytes) where
+  head : HeadRead bytes layout (task_count bytes)
+  head = head_read clean decided refl
+
+  pub layout_right : Sound layout
+  layout_right = sound bytes layout (task_count bytes) head
+
+  -- nothing begins far on
+  pub records_near : layout.size * task_count bytes ≤ 5355
+  records_near = omega (arith, start_small layout layout_right {n = task_count bytes} (few_tasks_law bytes layout (task_count bytes) head))
+
+  module _ (i : ℕ) (inside : i < task_count bytes) where
     pub record_near : layout.size * i ≤ 5355
     record_near = omega (arith, records_near, record_inside layout inside)
 
     pub record_fits : 5 + layout.size * i + layout.size ≤ length bytes
-    record_fits = omega (arith, record_inside layout inside, rows_end bytes layout n h)
+    record_fits = omega (arith, record_inside layout inside, rows_end bytes layout (task_count bytes) head)
 
     pub record_is : {t : Task} → t ≡ record_from layout bytes (5 + layout.size * i) → t ≡ task_at bytes i
-    record_is read = read ∙ ap (λ (l : Layout). record_from l bytes (record_start l i)) h.decided
+    record_is read = read ∙ ap (λ (l : Layout). record_from l bytes (record_start l i)) decided
 
-  module _ (m : ℕ) (counted : m ≡ row_count bytes) (k : ℕ) (inside : k < m) where
+  module _ (n k : ℕ) (counted : n ≡ task_count bytes) (inside : k < row_count bytes) where
     pub row_fits : 5 + layout.size * n + 6 * k + 6 ≤ length bytes
-    row_fits = omega (arith, rows_end bytes layout n h)
-
-    pub row_near : 6 * k ≤ 384
-    row_near = omega (arith, few_rows_law bytes layout n h)
+    row_fits = rw counted (omega (arith, rows_end bytes layout (task_count bytes) head))
 
     pub row_is : {r : Row} → r ≡ row_from bytes (5 + layout.size * n + 6 * k) → r ≡ row_at bytes k
     row_is read =
         read
-        ∙ ap (λ (l : Layout). row_from bytes (row_start l n k)) h.decided
-        ∙ ap (λ (t : ℕ). row_from bytes (row_start (layout_of bytes) t k)) h.counted
+        ∙ ap (λ (l : Layout). row_from bytes (row_start l n k)) decided
+        ∙ ap (λ (t : ℕ). row_from bytes (row_start (layout_of bytes) t k)) counted

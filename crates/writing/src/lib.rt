@@ -9,14 +9,14 @@ ghost use Rattle.encoding.specs.Bytes.{joined};
 ghost use Rattle.records.specs.Reading.{task_from};
 ghost use Rattle.reading.specs.Rows.{row_of};
 ghost use Rattle.printing.specs.Appended.{Appended};
+ghost use Rattle.printing.specs.Page.{Wrote};
 ghost use Rattle.writing.specs.Text.{next_number, delays_text, task_numbers, task_line, section_line, form_of, form_text};
 
 use model::Ticks;
-use printing::{append, append_with_number, line_with_number, refused};
+use printing::Page;
 use reading::rows::RowRecord;
 use reading::{LARGE_BYTES, LARGE_ROOM, LARGE_WORDS, rows};
 use records::TaskRecord;
-use tables::fields::{count, wide};
 use tables::{
     FOUR_PERIODS, HEAD_SIZE, ROW_COUNT_AT, ROW_SIZE, Refusal, TASK_COUNT_AT, VERSION_AT, layout,
 };
@@ -28,10 +28,18 @@ pub const LONGEST: usize = 12751;
 pub fn form_text(table: &[u8], out: &mut [u8]) -> usize
     ensures { Appended out.old 0 (form_text table.now) result out.new }
 {
-    let checked = check(table);
-    match checked {
-        Err(refusal) => refused(out, 0, refusal),
-        Ok(()) => form(out, 0, table),
+    let mut page = Page { out, at: 0 };
+    form_or_refusal(&mut page, table);
+    page.at
+}
+
+// Appends it.
+fn form_or_refusal(page: &mut Page, table: &[u8])
+    ensures { Wrote page.old (form_text table.now) page.new }
+{
+    match check(table) {
+        Err(refusal) => page.refused(refusal),
+        Ok(()) => form(page, table),
     }
 }
 
@@ -46,97 +54,90 @@ fn check(table: &[u8]) -> Result<(), Refusal>
 }
 
 // Appends the text form of a table with a right head.
-fn form(out: &mut [u8], at: usize, table: &[u8]) -> usize
+#[tactic(auto, using(crate::proofs::HeadLaws::head_long))]
+fn form(page: &mut Page, table: &[u8])
     requires { head_check table.now ≡ Ok tt }
-    ensures { Appended out.old at (form_of (version_of table.now) (table_of table.now)) result out.new }
+    ensures { Wrote page.old (form_of (version_of table.now) (table_of table.now)) page.new }
 {
-    let commented = append(
-        out,
-        at,
-        b"# task PRIORITY PERIOD COST DEADLINE; section PLACE SEMAPHORE LENGTH\n",
-    );
-    let version = wide(table[VERSION_AT]);
-    let stated = line_with_number(out, commented, b"version ", version as u64);
-    let listed = tasks(out, stated, table);
-    sections(out, listed, table)
+    page.append(b"# task PRIORITY PERIOD COST DEADLINE; section PLACE SEMAPHORE LENGTH\n");
+    page.line_with_number(b"version ", u64::from(table[VERSION_AT]));
+    tasks(page, table);
+    sections(page, table);
 }
 
 // The tasks' lines.
-fn tasks(out: &mut [u8], at: usize, table: &[u8]) -> usize
+#[tactic(auto, using(crate::proofs::HeadLaws::head_long, crate::proofs::HeadLaws::record_near, crate::proofs::HeadLaws::record_fits))]
+fn tasks(page: &mut Page, table: &[u8])
     requires { head_check table.now ≡ Ok tt }
-    ensures { Appended out.old at (joined task_line (tasks_of table.now)) result out.new }
+    ensures { Wrote page.old (joined task_line (tasks_of table.now)) page.new }
 {
     let layout = layout::of(table[VERSION_AT]);
-    let n = count(table[TASK_COUNT_AT]);
-    let mut next = at;
-    for i in 0..n {
-        let record = records::read(table, layout, HEAD_SIZE + layout.size * i);
-        next = task(out, next, record);
+    for i in 0..usize::from(table[TASK_COUNT_AT]) {
+        task(
+            page,
+            records::read(table, layout, HEAD_SIZE + layout.size * i),
+        );
     }
-    next
 }
 
 // One task's line.
-fn task(out: &mut [u8], at: usize, task: TaskRecord) -> usize
-    ensures { Appended out.old at (task_line (task_from task)) result out.new }
+fn task(page: &mut Page, task: TaskRecord)
+    ensures { Wrote page.old (task_line (task_from task)) page.new }
 {
-    let next = numbers(out, at, task);
-    let delayed = delays(out, next, task.earliest, task.latest);
-    append(out, delayed, b"\n")
+    numbers(page, task);
+    delays(page, task.earliest, task.latest);
+    page.append(b"\n");
 }
 
 // The four numbers that every task has.
-fn numbers(out: &mut [u8], at: usize, task: TaskRecord) -> usize
-    ensures { Appended out.old at (task_numbers (task_from task)) result out.new }
+fn numbers(page: &mut Page, task: TaskRecord)
+    ensures { Wrote page.old (task_numbers (task_from task)) page.new }
 {
-    let named = append_with_number(out, at, b"task ", task.priority.0 as u64);
-    let period = next_number(out, named, task.period.0 as u64);
-    let cost = next_number(out, period, task.cost.0 as u64);
-    next_number(out, cost, task.deadline.0 as u64)
+    page.append_with_number(b"task ", u64::from(task.priority.0));
+    next_number(page, task.period.0);
+    next_number(page, task.cost.0);
+    next_number(page, task.deadline.0);
 }
 
 // The delays behind a deadline. An earliest delay of 0 needs no word of its own.
-fn delays(out: &mut [u8], at: usize, earliest: Ticks, latest: Ticks) -> usize
-    ensures { Appended out.old at (delays_text earliest.0 latest.0) result out.new }
+fn delays(page: &mut Page, earliest: Ticks, latest: Ticks)
+    ensures { Wrote page.old (delays_text earliest.0 latest.0) page.new }
 {
-    if earliest.0 != 0 {
-        let next = append_with_number(out, at, b" delays ", earliest.0 as u64);
-        return next_number(out, next, latest.0 as u64);
+    match (earliest.0, latest.0) {
+        (0, 0) => {}
+        (0, latest) => page.append_with_number(b" jitter ", u64::from(latest)),
+        (earliest, latest) => {
+            page.append_with_number(b" delays ", u64::from(earliest));
+            next_number(page, latest);
+        }
     }
-    if latest.0 != 0 {
-        return append_with_number(out, at, b" jitter ", latest.0 as u64);
-    }
-    at
 }
 
 // The sections' lines.
-fn sections(out: &mut [u8], at: usize, table: &[u8]) -> usize
+#[tactic(auto, using(crate::proofs::HeadLaws::head_long, crate::proofs::HeadLaws::records_near, crate::proofs::HeadLaws::row_fits))]
+fn sections(page: &mut Page, table: &[u8])
     requires { head_check table.now ≡ Ok tt }
-    ensures { Appended out.old at (joined section_line (rows_of table.now)) result out.new }
+    ensures { Wrote page.old (joined section_line (rows_of table.now)) page.new }
 {
     let layout = layout::of(table[VERSION_AT]);
-    let n = count(table[TASK_COUNT_AT]);
-    let m = count(table[ROW_COUNT_AT]);
-    let mut next = at;
-    for k in 0..m {
-        let row = rows::read(table, HEAD_SIZE + layout.size * n + ROW_SIZE * k);
-        next = section(out, next, row);
+    let first = HEAD_SIZE + layout.size * usize::from(table[TASK_COUNT_AT]);
+    for k in 0..usize::from(table[ROW_COUNT_AT]) {
+        section(page, rows::read(table, first + ROW_SIZE * k));
     }
-    next
 }
 
 // One section's line.
-fn section(out: &mut [u8], at: usize, row: RowRecord) -> usize
-    ensures { Appended out.old at (section_line (row_of row)) result out.new }
+fn section(page: &mut Page, row: RowRecord)
+    ensures { Wrote page.old (section_line (row_of row)) page.new }
 {
-    let placed = append_with_number(out, at, b"section ", row.place.0 as u64);
-    let locked = next_number(out, placed, row.semaphore as u64);
-    line_with_number(out, locked, b" ", row.longest.0 as u64)
+    page.append_with_number(b"section ", row.place.0 as u64);
+    next_number(page, u32::from(row.semaphore));
+    page.line_with_number(b" ", u64::from(row.longest.0));
 }
 
 // A number behind another: one blank between words.
-fn next_number(out: &mut [u8], at: usize, number: u64) -> usize
-    ensures { Appended out.old at (next_number number) result out.new }
+fn next_number(page: &mut Page, number: u32)
+    ensures { Wrote page.old (next_number number) page.new }
 {
-    append_with_number(out, at, b" ", number)
+    page.append_with_number(b" ", u64::from(number));
 }
