@@ -18,7 +18,7 @@ pub fn share(cost: u32, period: u32) -> u64
     requires { 1 ≤ period }
     ensures { result ≡ share_of cost period }
 {
-    (1000000 * (cost as u64) + (period as u64 - 1)) / (period as u64)
+    (1000000 * u64::from(cost)).div_ceil(u64::from(period))
 }
 
 // "and then summed", for a table that was accepted.
@@ -28,11 +28,9 @@ pub fn utilisation(table: &[u8]) -> u64
 {
     let layout = tables::layout::of(table[VERSION_AT]);
     let n = count(table[TASK_COUNT_AT]);
-    let mut sum: u64 = 0;
-    let mut at = HEAD_SIZE;
-    for i in 0..n {
-        sum += share(word(table, at + COST_AT), word(table, at + PERIOD_AT));
-        at += layout.size;
+    let mut sum = 0;
+    for record in table[HEAD_SIZE..].chunks_exact(layout.size).take(n) {
+        sum += share(word(record, COST_AT), word(record, PERIOD_AT));
     }
     sum
 }
