@@ -8,7 +8,7 @@ ghost use Rattle.printing.specs.Appended.{Appended};
 ghost use Rattle.printing.specs.Text.{bytes_of, refused_line};
 ghost use Rattle.report_lines.specs.Line.{judged_as, multiple_text, figures_text, line_of};
 
-use multiples::{Multiple, hyperperiod};
+use multiples::hyperperiod;
 use printing::{append, append_number, append_with_number, line_with_number, refused};
 use response::Verdict;
 use tables::fields::count;
@@ -58,11 +58,11 @@ fn good_text(out: &mut [u8], at: usize, word: &[u8], table: &[u8]) -> usize
 }
 
 // The least common multiple of the periods, at the line's end.
-fn multiple_text(out: &mut [u8], at: usize, multiple: Multiple) -> usize
+fn multiple_text(out: &mut [u8], at: usize, multiple: Option<u64>) -> usize
     ensures { Appended out.old at (multiple_text multiple) result out.new }
 {
     match multiple {
-        Multiple::Number(number) => line_with_number(out, at, b" hyperperiod ", number),
-        Multiple::Over => append(out, at, b" hyperperiod over\n"),
+        Some(number) => line_with_number(out, at, b" hyperperiod ", number),
+        None => append(out, at, b" hyperperiod over\n"),
     }
 }
