@@ -1,14 +1,13 @@
 // Reads a table from standard input as it arrives, through the intake (SPECIFICATION 13.13; document 02, L11), and prints its answers.
 #![tactic(auto)]
 
-ghost use Rattle.std.specs.Prelude.{◌≤◌, ◌≡◌, length};
+ghost use Rattle.std.specs.Prelude.{◌≤◌, ◌≡◌, length, Ok};
 ghost use Rattle.tables.specs.FirstBytes.{most_kept};
 ghost use Rattle.printing.specs.Longest.{longest};
-ghost use Rattle.intake.specs.declared.Condition.TheVariants.{Ready};
 ghost use Rattle.intake.specs.Intake.{held, condition_of};
 ghost use Rattle.answers.specs.Input.{KeepsRead, PrintsAll};
 
-use intake::{Ended, MOST_KEPT};
+use intake::MOST_KEPT;
 use std::io::{Read as Source, Result};
 use streams::read_some;
 
@@ -21,7 +20,7 @@ struct Read {
 
 fn main(rt: HostRuntime) -> Result<()> {
     let mut store = [0u8; MOST_KEPT];
-    let mut fill: usize = 0;
+    let mut fill = 0;
     take_all(&mut rt.stdin(), &mut store, &mut fill);
     let mut out = [0u8; printing::LONGEST];
     let end = answer(&store, &mut fill, &mut out);
@@ -35,47 +34,30 @@ fn take_all<S: Source>(source: &mut S, store: &mut [u8], fill: &mut usize) -> Re
     ensures { KeepsRead result (held store.new fill.new) }
 {
     let mut piece = [0u8; 4096];
-    let mut total: usize = 0;
-    let mut last: usize = 0;
+    let mut total = 0;
+    let mut last = 0;
     intake::begin(fill);
     while total < MOST_KEPT {
         let count = read_some(source, &mut piece);
         if count == 0 {
-            return Read {
-                total: total,
-                last: count,
-            };
+            return Read { total, last: count };
         }
-        intake::take(store, fill, &piece[..count]);
-        total = total + count;
+        intake::take(store, fill, &piece[..count]).unwrap();
+        total += count;
         last = count;
     }
-    Read {
-        total: total,
-        last: last,
-    }
+    Read { total, last }
 }
 
 // Ends the table, and puts the whole text of what is said of it into a buffer that holds any; answers where it ends.
 fn answer(store: &[u8], fill: &mut usize, out: &mut [u8]) -> usize
-    requires fill_value { condition_of (held store.now fill.old) ≡ Ready }
+    requires fill_value { condition_of (held store.now fill.old) ≡ Ok tt }
     requires longest_in_bounds { longest ≤ length out.old }
     ensures { PrintsAll (held store.now fill.old) out.old result out.new }
 {
     let count = *fill;
     let mut answers = [0u32; 200];
     let mut rounds = [0u32; 200];
-    let ended = intake::end(store, fill, &mut answers, &mut rounds);
-    match ended {
-        Ended::Answered(verdict) => printing::text(
-            out,
-            0,
-            &store[..count],
-            verdict,
-            &answers,
-            &rounds,
-        ),
-        Ended::ShortStore => 0,
-        Ended::WrongFill => 0,
-    }
+    let verdict = intake::end(store, fill, &mut answers, &mut rounds).unwrap();
+    printing::text(out, 0, &store[..count], verdict, &answers, &rounds)
 }

@@ -1,5 +1,6 @@
 -- Whatever happens, the store keeps the first 4,590 bytes since the end before, and these get the answer of all.
 -- Assumes nothing.
+use Rattle.std.specs.Prelude.{Ok, Err}
 use Prim.Native.Nat.{ℕ, ◌+◌, ◌-◌, ◌≤◌, ◌<◌}
 use native.Mathlib.Omega.{arith}
 use native.Mathlib.Decide.{dec_le}
@@ -12,10 +13,8 @@ use Rattle.equation.specs.declared.Start.TheVariants.{EveryCost}
 use Rattle.response.proofs.FirstLaws.{first_bytes}
 use Rattle.printing.specs.Appended.{Appended, bytes_after}
 use Rattle.printing.proofs.AppendLaws.{long, text_is_law, take_both, nothing}
-use Rattle.intake.specs.declared.Condition.{Condition}
-use Rattle.intake.specs.declared.Condition.TheVariants as condition
-use Rattle.intake.specs.declared.Ended.{Ended}
-use Rattle.intake.specs.Intake.{State, held, begun, condition_of, if_ready, roomy, with_piece, bytes_in, answers_left, rounds_left, fill_after}
+use Rattle.intake.specs.declared.Unusable.TheVariants.{ShortStore, WrongFill}
+use Rattle.intake.specs.Intake.{Condition, Ended, State, held, begun, condition_of, if_ready, roomy, with_piece, bytes_in, answers_left, rounds_left, fill_after}
 use Rattle.intake.specs.Events.{Event, begin, piece, end, Reply, began, took, gave, reply_of, state_of, AsCalled, replies_of, state_after, answer_to, replies_to, AnyEvents, since_end, Keeps, AlwaysKept, AnyPieces, SameBytes, FreshAgain, AlwaysFresh, NothingTaken, ShortStores, WrongFills}
 use Rattle.intake.proofs.StateLaws.{fit_short, fit_wrong, fit_ready}
 
@@ -25,7 +24,7 @@ pub keeps_none : (store : List ℕ) → 4590 ≤ length store → Keeps [] (begu
 keeps_none store room = record { room = room; fill = omega arith; kept = refl }
 
 module _ {bytes : List ℕ} {state : State} (k : Keeps bytes state) where
-  pub keeps_ready : condition_of state ≡ condition.Ready
+  pub keeps_ready : condition_of state ≡ Ok tt
   keeps_ready = sym (fit_ready (length state.store) state.fill k.room (omega (arith, k.fill)))
 
   -- a piece is appended: what is kept of it stands behind what is kept of the bytes before
@@ -94,7 +93,7 @@ replies since state [] k = refl
 replies since state (begin ∷ events) k = ap (λ (rs : List Reply). began ∷ rs) (replies [] (begun state.store) events (keeps_none state.store k.room))
 replies since state (piece more ∷ events) k =
     ap (λ (r : Reply). r ∷ replies_of (state_of state (piece more)) events) (ap took (keeps_ready k))
-    ∙ ap (λ (rs : List Reply). took condition.Ready ∷ rs) (replies (since ++ more) (state_of state (piece more)) events (keeps_taken state more k))
+    ∙ ap (λ (rs : List Reply). took (Ok tt) ∷ rs) (replies (since ++ more) (state_of state (piece more)) events (keeps_taken state more k))
 replies since state (end answers rounds ∷ events) k =
     ap (λ (r : Reply). r ∷ replies_of (state_of state (end answers rounds)) events) (answered k answers rounds)
     ∙ ap (λ (rs : List Reply). answer_to since answers rounds ∷ rs)
@@ -148,13 +147,12 @@ pub nothing_taken : NothingTaken
 nothing_taken state = go (condition_of state)
   where
     go : (c : Condition) → if_ready c (with_piece state []) state ≡ state
-    go condition.Ready = nothing_more state
-    go condition.ShortStore = refl
-    go condition.WrongFill = refl
+    go (Ok fit) = nothing_more state
+    go (Err why) = refl
 
 pub short_stores : ShortStores
 short_stores state short =
-    let is_short : condition_of state ≡ condition.ShortStore = sym (fit_short (length state.store) state.fill short) in
+    let is_short : condition_of state ≡ Err ShortStore = sym (fit_short (length state.store) state.fill short) in
     record {
       piece_is = λ more. rw is_short refl;
       piece_leaves = λ more. rw is_short refl;
@@ -164,7 +162,7 @@ short_stores state short =
 
 pub wrong_fills : WrongFills
 wrong_fills state room wrong =
-    let is_wrong : condition_of state ≡ condition.WrongFill = sym (fit_wrong (length state.store) state.fill room wrong) in
+    let is_wrong : condition_of state ≡ Err WrongFill = sym (fit_wrong (length state.store) state.fill room wrong) in
     record {
       piece_is = λ more. rw is_wrong refl;
       piece_leaves = λ more. rw is_wrong refl;

@@ -1,16 +1,13 @@
 -- Whatever pieces come, and however often a table ends: each end answers for all the bytes since the end before, or since `begin`, if that
 -- was called in between (SPECIFICATION 13.13; document 02, L11). The proofs are in proofs/EventLaws.antt.
 -- Assumes nothing.
-use Rattle.std.specs.Prelude.{ℕ, ◌≤◌, ◌<◌, min, ◌≡◌, length}
+use Rattle.std.specs.Prelude.{ℕ, ◌≤◌, ◌<◌, min, ◌≡◌, length, Ok, Err}
 use mathlib.Core.List.{List, [], ◌∷◌, ◌++◌, map, flatten}
 use Rattle.tables.specs.FirstBytes.{most_kept, kept_of}
 use Rattle.equation.specs.declared.Start.TheVariants.{EveryCost}
 use Rattle.response.specs.Outcome.{verdict_of, answers_after, rounds_after}
-use Rattle.intake.specs.declared.Condition.{Condition}
-use Rattle.intake.specs.declared.Condition.TheVariants as condition
-use Rattle.intake.specs.declared.Ended.{Ended}
-use Rattle.intake.specs.declared.Ended.TheVariants as said
-use Rattle.intake.specs.Intake.{State, held, begun_fill, begun, condition_of, taken_by, Takes, Ends, bytes_in, ended_by, answers_left, rounds_left, fill_after}
+use Rattle.intake.specs.declared.Unusable.TheVariants.{ShortStore, WrongFill}
+use Rattle.intake.specs.Intake.{State, Condition, Ended, held, begun_fill, begun, condition_of, taken_by, Takes, Ends, bytes_in, ended_by, answers_left, rounds_left, fill_after}
 
 -- What can happen: what came is given up, and a table begins anew; a piece arrives; or the sender says that the table has ended, and both
 -- slices are lent as they are.
@@ -57,7 +54,7 @@ state_after state (event ∷ events) = state_after (state_of state event) events
 -- "exactly the answer the whole bytes would get": verdict and every word of both slices, as `analyse` gives them for these bytes
 abbrev pub answer_to : List ℕ → List ℕ → List ℕ → Reply
 answer_to bytes answers rounds =
-    gave (said.Answered (verdict_of bytes (length answers) (length rounds))) (answers_after bytes answers rounds)
+    gave (Ok (verdict_of bytes (length answers) (length rounds))) (answers_after bytes answers rounds)
     (rounds_after EveryCost bytes answers rounds)
 
 -- What is to be replied, where the bytes `since` have come since the end before: every piece is taken, and each end is answered for all
@@ -65,7 +62,7 @@ answer_to bytes answers rounds =
 unfoldable pub replies_to : List ℕ → List Event → List Reply
 replies_to since [] = []
 replies_to since (begin ∷ events) = began ∷ replies_to [] events
-replies_to since (piece bytes ∷ events) = took condition.Ready ∷ replies_to (since ++ bytes) events
+replies_to since (piece bytes ∷ events) = took (Ok tt) ∷ replies_to (since ++ bytes) events
 replies_to since (end answers rounds ∷ events) = answer_to since answers rounds ∷ replies_to [] events
 
 -- The theorem of document 02, L11: for every list of events, from the beginning, with any store that is long enough.
@@ -128,10 +125,10 @@ pub record Unfit (state : State) (condition : Condition) (ended : Ended) (after 
 
 -- A store that is too short, with any fill: nothing is taken, and nothing is given up.
 abbrev pub ShortStores : Type 0
-ShortStores = (state : State) → length state.store < most_kept → Unfit state condition.ShortStore said.ShortStore state
+ShortStores = (state : State) → length state.store < most_kept → Unfit state (Err ShortStore) (Err ShortStore) state
 
 -- A fill that is wrong, in a store that is long enough: nothing is taken, and an end makes the intake fresh.
 abbrev pub WrongFills : Type 0
 WrongFills =
     (state : State) → most_kept ≤ length state.store → most_kept < state.fill →
-    Unfit state condition.WrongFill said.WrongFill (begun state.store)
+    Unfit state (Err WrongFill) (Err WrongFill) (begun state.store)

@@ -1,16 +1,14 @@
 -- What each call of the intake says and leaves, for any store and fill, and any piece or slices (SPECIFICATION 13.13; document 02, L11).
 -- Assumes nothing.
-use Rattle.std.specs.Prelude.{ℕ, ◌+◌, ◌-◌, ◌≡◌, List, ltb, length, take}
+use Rattle.std.specs.Prelude.{ℕ, ◌+◌, ◌-◌, ◌≡◌, List, ltb, length, take, Result, Ok, Err}
 use Rattle.model.specs.Choice.{pick}
 use Rattle.tables.specs.FirstBytes.{most_kept}
 use Rattle.equation.specs.declared.Start.TheVariants.{EveryCost}
 use Rattle.answering.specs.declared.Verdict.{Verdict}
 use Rattle.response.specs.Outcome.{verdict_of, answers_after, rounds_after}
 use Rattle.printing.specs.Appended.{bytes_after}
-use Rattle.intake.specs.declared.Condition.{Condition}
-use Rattle.intake.specs.declared.Condition.TheVariants.{Ready, ShortStore, WrongFill}
-use Rattle.intake.specs.declared.Ended.{Ended}
-use Rattle.intake.specs.declared.Ended.TheVariants as said
+use Rattle.intake.specs.declared.Unusable.{Unusable}
+use Rattle.intake.specs.declared.Unusable.TheVariants.{ShortStore, WrongFill}
 
 -- What the caller keeps between two calls: the bytes of the store, and how many of them, from its beginning, are the table's so far.
 pub record State : Type 0 where
@@ -27,19 +25,25 @@ begun_fill = 0
 abbrev pub begun : List ℕ → State
 begun store = held store begun_fill
 
+-- Can a store and its fill be used, or why not? And what is said when a table has ended.
+abbrev pub Condition : Type 0
+Condition = Result Unit Unusable
+
+abbrev pub Ended : Type 0
+Ended = Result Verdict Unusable
+
 -- A store is too short if it could not keep 4,590 bytes, however many come; and a fill is wrong if it is above that, as none is that a call
 -- sets. (One that somebody else has set, and that is not above it, can't be told from a right one.)
 abbrev pub condition_for : ℕ → ℕ → Condition
-condition_for long fill = pick (ltb long most_kept) ShortStore (pick (ltb most_kept fill) WrongFill Ready)
+condition_for long fill = pick (ltb long most_kept) (Err ShortStore) (pick (ltb most_kept fill) (Err WrongFill) (Ok tt))
 
 abbrev pub condition_of : State → Condition
 condition_of state = condition_for (length state.store) state.fill
 
 -- what is so only where the store and the fill can be used; else all stays as it was
 abbrev pub if_ready : {A : Type 0} → Condition → A → A → A
-if_ready Ready new old = new
-if_ready ShortStore new old = old
-if_ready WrongFill new old = old
+if_ready (Ok fit) new old = new
+if_ready (Err why) new old = old
 
 -- "Bytes after the 4,590th are dropped": of a piece, what still has room
 abbrev pub roomy : State → List ℕ → List ℕ
@@ -64,9 +68,8 @@ bytes_in state = take state.fill state.store
 
 -- "when the sender says it has ended give exactly the answer": what `analyse` says of the bytes that are kept
 abbrev pub ended_for : Condition → Verdict → Ended
-ended_for Ready verdict = said.Answered verdict
-ended_for ShortStore verdict = said.ShortStore
-ended_for WrongFill verdict = said.WrongFill
+ended_for (Ok fit) verdict = Ok verdict
+ended_for (Err why) verdict = Err why
 
 abbrev pub ended_by : State → List ℕ → List ℕ → Ended
 ended_by state answers rounds = ended_for (condition_of state) (verdict_of (bytes_in state) (length answers) (length rounds))
@@ -79,9 +82,9 @@ rounds_left state answers rounds = if_ready (condition_of state) (rounds_after E
 
 -- "After an answer the intake is fresh again", and so is one whose fill was wrong. What a short store holds is not given up.
 abbrev pub fill_after : Ended → ℕ → ℕ
-fill_after (said.Answered verdict) fill = begun_fill
-fill_after said.ShortStore fill = fill
-fill_after said.WrongFill fill = begun_fill
+fill_after (Ok verdict) fill = begun_fill
+fill_after (Err ShortStore) fill = fill
+fill_after (Err WrongFill) fill = begun_fill
 
 -- what is said, and the words of both slices
 pub record Answers (state : State) (answers rounds : List ℕ) (ended : Ended) (answers_now rounds_now : List ℕ) : Type 0 where
@@ -108,10 +111,10 @@ NoSecondEnd =
 
 -- At the edges: 4,590 bytes are enough, and all of them may be kept; one byte less is too short, whatever the fill is; and no more are kept.
 pub record EdgesDrawn : Type 0 where
-  pub enough : condition_for 4590 0 ≡ Ready
-  pub full : condition_for 4590 4590 ≡ Ready
-  pub longer : condition_for 5000 4590 ≡ Ready
-  pub short : condition_for 4589 0 ≡ ShortStore
-  pub short_first : condition_for 4589 4591 ≡ ShortStore
-  pub wrong : condition_for 4590 4591 ≡ WrongFill
-  pub wrong_in_longer : condition_for 5000 4591 ≡ WrongFill
+  pub enough : condition_for 4590 0 ≡ Ok tt
+  pub full : condition_for 4590 4590 ≡ Ok tt
+  pub longer : condition_for 5000 4590 ≡ Ok tt
+  pub short : condition_for 4589 0 ≡ Err ShortStore
+  pub short_first : condition_for 4589 4591 ≡ Err ShortStore
+  pub wrong : condition_for 4590 4591 ≡ Err WrongFill
+  pub wrong_in_longer : condition_for 5000 4591 ≡ Err WrongFill

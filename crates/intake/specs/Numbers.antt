@@ -1,37 +1,36 @@
 -- What the calls of the intake return to C: a number for each condition, and the verdict in one number (SPECIFICATION 11 and 13.13).
 -- Assumes nothing.
-use Rattle.std.specs.Prelude.{ℕ, ◌*◌, ◌≡◌, ◌≢◌, List}
+use Rattle.std.specs.Prelude.{ℕ, ◌*◌, ◌≡◌, ◌≢◌, List, Ok, Err}
 use Rattle.answering.specs.declared.Verdict.{Verdict}
 use Rattle.response.specs.Verdicts.{code_of, verdict_place, packed}
-use Rattle.intake.specs.declared.Condition.{Condition}
-use Rattle.intake.specs.declared.Condition.TheVariants.{Ready, ShortStore, WrongFill}
-use Rattle.intake.specs.declared.Ended.{Ended}
-use Rattle.intake.specs.declared.Ended.TheVariants as said
-use Rattle.intake.specs.Intake.{State, Takes, Ends}
+use Rattle.intake.specs.declared.Unusable.{Unusable}
+use Rattle.intake.specs.declared.Unusable.TheVariants.{ShortStore, WrongFill}
+use Rattle.intake.specs.Intake.{State, Condition, Ended, Takes, Ends}
 
 -- 0, or a code that no verdict has
+abbrev pub unusable_code : Unusable → ℕ
+unusable_code ShortStore = 252
+unusable_code WrongFill = 253
+
 abbrev pub condition_code : Condition → ℕ
-condition_code Ready = 0
-condition_code ShortStore = 252
-condition_code WrongFill = 253
+condition_code (Ok fit) = 0
+condition_code (Err why) = unusable_code why
 
 -- the code in the upper 32 bits, and the place in the lower 32, as of every verdict
 abbrev pub packed_ended : Ended → ℕ
-packed_ended (said.Answered verdict) = packed verdict
-packed_ended said.ShortStore = condition_code ShortStore * 4294967296
-packed_ended said.WrongFill = condition_code WrongFill * 4294967296
+packed_ended (Ok verdict) = packed verdict
+packed_ended (Err why) = unusable_code why * 4294967296
 
 abbrev pub ended_place : Ended → ℕ
-ended_place (said.Answered verdict) = verdict_place verdict
-ended_place said.ShortStore = 0
-ended_place said.WrongFill = 0
+ended_place (Ok verdict) = verdict_place verdict
+ended_place (Err why) = 0
 
 -- No verdict has one of the two codes, and they are told apart. The proof is in proofs/NumberLaws.antt.
 pub record CodesDrawn : Type 0 where
-  pub ready : condition_code Ready ≡ 0
-  pub short : packed_ended said.ShortStore ≡ 1082331758592
-  pub wrong : packed_ended said.WrongFill ≡ 1086626725888
-  pub own : (verdict : Verdict) → (code_of verdict ≢ condition_code ShortStore) × (code_of verdict ≢ condition_code WrongFill)
+  pub ready : condition_code (Ok tt) ≡ 0
+  pub short : packed_ended (Err ShortStore) ≡ 1082331758592
+  pub wrong : packed_ended (Err WrongFill) ≡ 1086626725888
+  pub own : (verdict : Verdict) → (code_of verdict ≢ condition_code (Err ShortStore)) × (code_of verdict ≢ condition_code (Err WrongFill))
 
 -- A call that takes a piece, as C sees it: what `take` says and leaves, by its number.
 pub record NumberedTake (state : State) (piece : List ℕ) (number : ℕ) (left : State) : Type 0 where

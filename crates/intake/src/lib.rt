@@ -8,29 +8,33 @@ ghost use Rattle.intake.specs.Intake.{held, begun_fill, condition_for, fill_afte
 
 use printing::append;
 use response::{Verdict, analyse};
+use std::error::Error;
+use std::fmt;
 
 pub mod numbers;
 
 // Bytes that are kept of a table: one more than the longest has, so that a longer one is seen to be too long.
 pub const MOST_KEPT: usize = 4590;
 
-// Whether a store and its fill can be used.
-#[derive(Clone, Copy)]
-pub enum Condition {
-    Ready,
+// Why a store and its fill can't be used.
+#[derive(Clone, Copy, Debug, PartialEq, Eq)]
+pub enum Unusable {
     // the store has fewer bytes than may have to be kept
     ShortStore,
     // more bytes are said to be kept than ever are: nobody has begun, or the fill was overwritten
     WrongFill,
 }
 
-// What is said when a table has ended.
-#[derive(Clone, Copy)]
-pub enum Ended {
-    Answered(Verdict),
-    ShortStore,
-    WrongFill,
+impl fmt::Display for Unusable {
+    fn fmt<W: fmt::Write>(&self, f: &mut fmt::Formatter<W>) -> fmt::Result {
+        match self {
+            Unusable::ShortStore => write!(f, "the store is too short"),
+            Unusable::WrongFill => write!(f, "the fill is wrong"),
+        }
+    }
 }
+
+impl Error for Unusable {}
 
 // Nothing of a table has come yet.
 pub fn begin(fill: &mut usize)
@@ -41,23 +45,21 @@ pub fn begin(fill: &mut usize)
 
 // Takes a piece of a table, if the store and the fill can be used; else the piece is still to be taken. Bytes after the 4,590th are dropped,
 // and what is kept is copied once.
-pub fn take(store: &mut [u8], fill: &mut usize, piece: &[u8]) -> Condition
+pub fn take(store: &mut [u8], fill: &mut usize, piece: &[u8]) -> Result<(), Unusable>
     ensures { Takes (held store.old fill.old) piece.now result (held store.new fill.new) }
 {
-    let at = *fill;
-    let condition = fitness(store.len(), at);
-    match condition {
-        Condition::Ready => {
-            *fill = append(&mut store[..MOST_KEPT], at, piece);
-        }
-        Condition::ShortStore => {}
-        Condition::WrongFill => {}
-    }
-    condition
+    fitness(store.len(), *fill)?;
+    *fill = append(&mut store[..MOST_KEPT], *fill, piece);
+    Ok(())
 }
 
 // The table has ended: answers for the bytes that came since the intake was fresh, which it then is again.
-pub fn end(store: &[u8], fill: &mut usize, answers: &mut [u32], rounds: &mut [u32]) -> Ended
+pub fn end(
+    store: &[u8],
+    fill: &mut usize,
+    answers: &mut [u32],
+    rounds: &mut [u32],
+) -> Result<Verdict, Unusable>
     ensures { Ends (held store.now fill.old) answers.old rounds.old result fill.new answers.new rounds.new }
 {
     let count = *fill;
@@ -67,36 +69,37 @@ pub fn end(store: &[u8], fill: &mut usize, answers: &mut [u32], rounds: &mut [u3
 }
 
 // Answers for the bytes that a store keeps, if it can be used.
-fn answer(store: &[u8], fill: usize, answers: &mut [u32], rounds: &mut [u32]) -> Ended
+fn answer(
+    store: &[u8],
+    fill: usize,
+    answers: &mut [u32],
+    rounds: &mut [u32],
+) -> Result<Verdict, Unusable>
     ensures { Answers (held store.now fill) answers.old rounds.old result answers.new rounds.new }
 {
-    match fitness(store.len(), fill) {
-        Condition::Ready => Ended::Answered(analyse(&store[..fill], answers, rounds)),
-        Condition::ShortStore => Ended::ShortStore,
-        Condition::WrongFill => Ended::WrongFill,
-    }
+    fitness(store.len(), fill)?;
+    Ok(analyse(&store[..fill], answers, rounds))
 }
 
 // Can a store of so many bytes be used, of which so many are said to be kept?
-fn fitness(store: usize, fill: usize) -> Condition
+fn fitness(store: usize, fill: usize) -> Result<(), Unusable>
     ensures { result ≡ condition_for store fill }
 {
     if store < MOST_KEPT {
-        return Condition::ShortStore;
+        return Err(Unusable::ShortStore);
     }
     if MOST_KEPT < fill {
-        return Condition::WrongFill;
+        return Err(Unusable::WrongFill);
     }
-    Condition::Ready
+    Ok(())
 }
 
 // How many bytes are kept behind the end. Those in a short store are not lost: they can still be copied into a longer one.
-fn fill_after(ended: Ended, fill: usize) -> usize
+fn fill_after(ended: Result<Verdict, Unusable>, fill: usize) -> usize
     ensures { result ≡ fill_after ended fill }
 {
     match ended {
-        Ended::Answered(_) => 0,
-        Ended::ShortStore => fill,
-        Ended::WrongFill => 0,
+        Err(Unusable::ShortStore) => fill,
+        Ok(_) | Err(Unusable::WrongFill) => 0,
     }
 }

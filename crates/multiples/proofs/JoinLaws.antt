@@ -1,5 +1,6 @@
 -- One turn of the loop that joins the periods.
 -- Assumes nothing.
+use Rattle.std.specs.Prelude.{Some, None}
 use Prim.Native.Nat.{ℕ, zero, suc, ◌+◌, ◌≤◌, ◌<◌, ◌∣◌}
 use native.Mathlib.Omega.{arith}
 use mathlib.Core.Path.{◌≡◌, refl, sym, ◌∙◌, ap, subst}
@@ -8,12 +9,10 @@ use lib.ListN.{length, get_or}
 use borrow.Author.Tests.{le-leb, lt-leb}
 use Rattle.model.specs.Lists.{tabulate}
 use Rattle.model.proofs.Lists.{tabulate_more, tabulate_none, length_tabulate, get_d_tabulate}
-use Rattle.tables.specs.declared.layout.Layout.{Layout}
-use Rattle.tables.specs.Layout.{layout_of, task_count, task_at, tasks_of, period_in}
+use Rattle.tables.specs.Layout.{word_at, task_count, task_at, tasks_of, period_in}
 use Rattle.tables.specs.Fields.{period_field}
 use Rattle.tables.specs.Meaning.{TableRight}
-use Rattle.tables.proofs.WalkLaws.{Walking, walking_first, walked, period_within, walking_more}
-use Rattle.multiples.specs.declared.Multiple.TheVariants.{Number, Over}
+use Rattle.tables.proofs.WalkLaws.{Walking, Turn, walked, period_is, period_within, walking_more}
 use Rattle.multiples.specs.Multiples.{least_multiple, AllDivide, IsLeastMultiple, AllPositive, shown, period_of, hyperperiod_of, TablePeriods, ShownDrawn}
 use Rattle.multiples.proofs.MultipleLaws.{least_multiple_right, is_found, least_none, pair_right, least_more}
 
@@ -61,48 +60,48 @@ pub table_periods : TablePeriods
 table_periods bytes right = rw (periods_are bytes) (all_positive bytes right)
 
 -- what is shown of a multiple
-shown_over : (m : ℕ) → 1000000000000 < m → Over ≡ shown m
+shown_over : (m : ℕ) → 1000000000000 < m → None ≡ shown m
 shown_over m h = rw (lt-leb m 1000000000000 h)
 
-shown_number : (m : ℕ) → m ≤ 1000000000000 → Number m ≡ shown m
+shown_number : (m : ℕ) → m ≤ 1000000000000 → Some m ≡ shown m
 shown_number m h = rw (le-leb m 1000000000000 h)
 
 -- before the period of task i is joined to those before it
-pub record Joining (bytes : List ℕ) (layout : Layout) (n i at common : ℕ) : Type 0 where
-  pub walk : Walking bytes layout n i at
+pub record Joining (bytes : List ℕ) (size left i : ℕ) (rest : List ℕ) (common : ℕ) : Type 0 where
+  pub walk : Walking bytes size left i rest
   pub least : IsLeastMultiple (periods bytes i) common
   pub small : common ≤ 1000000000000
 
-pub joining_first : {bytes : List ℕ} {layout : Layout} {n : ℕ} → TableRight bytes → layout ≡ layout_of bytes → n ≡ task_count bytes →
-    Joining bytes layout n 0 5 1
-joining_first {bytes} right decided counted =
+pub joining_first : {bytes rest : List ℕ} {size left : ℕ} → Walking bytes size left 0 rest → Joining bytes size left 0 rest 1
+joining_first {bytes} walk =
     record {
-      walk = walking_first right decided counted;
+      walk = walk;
       least = rw (tabulate_none (period_in bytes)) least_none;
       small = omega arith;
     }
 
-module _ {bytes : List ℕ} {layout : Layout} {n i at common : ℕ} (j : Joining bytes layout n i at common) where
+module _ {bytes : List ℕ} {size left i : ℕ} {rest : List ℕ} {common : ℕ} (j : Joining bytes size left i rest common) where
   -- behind the last period
-  pub joining_all : n ≤ i → Number common ≡ hyperperiod_of (tasks_of bytes)
-  joining_all past =
+  pub joining_all : (0 < left → length rest < size) → Some common ≡ hyperperiod_of (tasks_of bytes)
+  joining_all none =
       let same : common ≡ least_multiple (map period_of (tasks_of bytes)) =
       is_found (periods bytes i) common j.least
-      ∙ ap (λ (k : ℕ). least_multiple (periods bytes k)) (walked j.walk past)
+      ∙ ap (λ (k : ℕ). least_multiple (periods bytes k)) (walked j.walk none)
       ∙ ap least_multiple (sym (periods_are bytes)) in
       shown_number common j.small ∙ ap shown same
 
-  module _ (h : i < n) {period next : ℕ} (p : period ≡ period_in bytes i) (e : next ≡ least_multiple (common ∷ (period ∷ []))) where
+  module _ {found after : List ℕ} {kept less : ℕ} (t : Turn size left rest found kept less after)
+      {period next : ℕ} (p : period ≡ word_at found 1) (e : next ≡ least_multiple (common ∷ (period ∷ []))) where
     next_least : IsLeastMultiple (periods bytes (i + 1)) next
     next_least =
-        rw (tabulate_more (period_in bytes) i, e, p)
+        rw (tabulate_more (period_in bytes) i, e, period_is j.walk t p)
         (least_more (periods bytes i) (period_in bytes i) common (least_multiple (common ∷ (period_in bytes i ∷ []))) j.least
-        (pair_right common (period_in bytes i) j.least.positive (period_within j.walk h).low))
+        (pair_right common (period_in bytes i) j.least.positive (period_within j.walk t).low))
 
-    pub joining_over : 1000000000000 < next → Over ≡ hyperperiod_of (tasks_of bytes)
+    pub joining_over : 1000000000000 < next → None ≡ hyperperiod_of (tasks_of bytes)
     joining_over far =
         shown_over (least_multiple (map period_of (tasks_of bytes)))
-        (omega (arith, first_less bytes j.walk.right (i + 1) next (omega (arith, j.walk.counted)) next_least))
+        (omega (arith, first_less bytes j.walk.right (i + 1) next (omega (arith, j.walk.counted, t.taken)) next_least))
 
-    pub joining_more : next ≤ 1000000000000 → Joining bytes layout n (i + 1) (at + layout.size) next
-    joining_more near = record { walk = walking_more j.walk h; least = next_least; small = near }
+    pub joining_more : {n : ℕ} → n ≡ i + 1 → next ≤ 1000000000000 → Joining bytes kept less n after next
+    joining_more e near = rw e (record { walk = walking_more j.walk t; least = next_least; small = near })

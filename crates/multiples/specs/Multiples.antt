@@ -1,14 +1,12 @@
 -- The least common multiple of numbers, and of a table's periods (SPECIFICATION 13.12; document 02, L10).
 -- Assumes nothing.
-use Rattle.std.specs.Prelude.{ℕ, ◌*◌, ◌/◌, ◌%◌, ◌≤◌, ◌<◌, ◌≡◌, Bool, true, List, [], ◌∷◌, ◌++◌, map, eqb, leb, length, get_or}
+use Rattle.std.specs.Prelude.{ℕ, ◌*◌, ◌/◌, ◌%◌, ◌≤◌, ◌<◌, ◌≡◌, Bool, true, List, [], ◌∷◌, ◌++◌, map, eqb, leb, length, get_or, Option, Some, None}
 use Rattle.std.specs.Int.{◌∣◌}
 use Rattle.model.specs.Choice.{pick, both}
 use Rattle.model.specs.Search.{first_from}
 use Rattle.model.specs.Tables.{Task}
 use Rattle.tables.specs.Layout.{tasks_of}
 use Rattle.tables.specs.Meaning.{TableRight}
-use Rattle.multiples.specs.declared.Multiple.{Multiple}
-use Rattle.multiples.specs.declared.Multiple.TheVariants.{Number, Over}
 use Rattle.multiples.specs.Divisors.{GreatestDivisor}
 
 -- does every number of the list divide w?
@@ -53,19 +51,19 @@ abbrev pub OneMore : Type 0
 OneMore =
     (ps : List ℕ) (p m g : ℕ) → 1 ≤ p → IsLeastMultiple ps m → GreatestDivisor m p g → IsLeastMultiple (ps ++ (p ∷ [])) (m / g * p)
 
--- "above 10^12 print "over"": 10^12 itself is a number
-abbrev pub shown : ℕ → Multiple
-shown m = pick (leb m 1000000000000) (Number m) Over
+-- "above 10^12 print "over"": 10^12 itself is a number, and above it there is none
+abbrev pub shown : ℕ → Option ℕ
+shown m = pick (leb m 1000000000000) (Some m) None
 
 -- at both sides of it. (10^12 is no table's: it is 2^12 · 5^12, and 5^12 is above every period.)
 abbrev pub ShownDrawn : Type 0
-ShownDrawn = (shown 1000000000000 ≡ Number 1000000000000) × (shown 1000000000001 ≡ Over)
+ShownDrawn = (shown 1000000000000 ≡ Some 1000000000000) × (shown 1000000000001 ≡ None)
 
 abbrev pub period_of : Task → ℕ
 period_of t = t.period
 
 -- "the periods' least common multiple"
-abbrev pub hyperperiod_of : List Task → Multiple
+abbrev pub hyperperiod_of : List Task → Option ℕ
 hyperperiod_of tasks = shown (least_multiple (map period_of tasks))
 
 -- no period of an accepted table is 0

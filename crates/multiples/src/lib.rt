@@ -1,23 +1,17 @@
 // The least common multiple of a table's periods (SPECIFICATION 13.12; document 02, L10).
 #![tactic(auto)]
 
-ghost use Rattle.std.specs.Prelude.{◌≡◌, [], ◌∷◌, ◌≤◌, ltb};
+ghost use Rattle.std.specs.Prelude.{◌≡◌, [], ◌∷◌, ◌≤◌};
 ghost use Rattle.tables.specs.Layout.{tasks_of};
 ghost use Rattle.tables.specs.Meaning.{TableRight};
 ghost use Rattle.multiples.specs.Divisors.{GreatestDivisor};
 ghost use Rattle.multiples.specs.Multiples.{least_multiple, hyperperiod_of};
 
-use tables::fields::{count, word};
+use tables::fields::word;
 use tables::{HEAD_SIZE, PERIOD_AT, TASK_COUNT_AT, VERSION_AT};
 
-// The largest multiple that is printed.
+// The largest multiple that is printed: "above 10^12 print "over"", and 10^12 itself is a number.
 const LARGEST: u64 = 1000000000000;
-
-#[derive(Clone, Copy)]
-pub enum Multiple {
-    Number(u64),
-    Over,
-}
 
 // "the common divisor found by Euclid's rule calling itself on the remainder".
 pub fn gcd(a: u64, b: u64) -> u64
@@ -33,7 +27,7 @@ fn joined(before: u64, period: u32) -> u64
     requires le_period { (1 ≤ period) × (period ≤ 1000000) }
     ensures { result ≡ least_multiple (before ∷ (period ∷ [])) }
 {
-    let next = period as u64;
+    let next = u64::from(period);
     if before == 1 {
         return next;
     }
@@ -44,28 +38,20 @@ fn joined(before: u64, period: u32) -> u64
     before / gcd(next, rest) * next
 }
 
-// "above 10^12 print "over"": 10^12 itself is a number.
-fn is_over(multiple: u64) -> bool
-    ensures { result ≡ ltb 1000000000000 multiple }
-{
-    LARGEST < multiple
-}
-
-// "the periods' least common multiple" of a table that was accepted. Once it is over it stays so: that of more periods is no less.
-pub fn hyperperiod(table: &[u8]) -> Multiple
+// "the periods' least common multiple" of a table that was accepted; none where it is over. Once it is over it stays so: that of more
+// periods is no less.
+pub fn hyperperiod(table: &[u8]) -> Option<u64>
     requires { TableRight table.now }
     ensures { result ≡ hyperperiod_of (tasks_of table.now) }
 {
     let layout = tables::layout::of(table[VERSION_AT]);
-    let n = count(table[TASK_COUNT_AT]);
-    let mut common: u64 = 1;
-    let mut at = HEAD_SIZE;
-    for i in 0..n {
-        common = joined(common, word(table, at + PERIOD_AT));
-        if is_over(common) {
-            return Multiple::Over;
+    let n = usize::from(table[TASK_COUNT_AT]);
+    let mut common = 1;
+    for record in table[HEAD_SIZE..].chunks_exact(layout.size).take(n) {
+        common = joined(common, word(record, PERIOD_AT));
+        if LARGEST < common {
+            return None;
         }
-        at += layout.size;
     }
-    Multiple::Number(common)
+    Some(common)
 }

@@ -118,7 +118,7 @@ pub fn task_count(table: &[u8]) -> usize
     ensures { (result ≡ task_count table.now) × (result < 256) }
 {
     match table.get(TASK_COUNT_AT) {
-        Some(byte) => tables::fields::count(*byte),
+        Some(byte) => usize::from(*byte),
         None => 0,
     }
 }

@@ -1,6 +1,6 @@
 -- A report's line: the table of one that is not refused breaks no rule; and how long a line can be.
 -- Assumes nothing.
-use Rattle.std.specs.Prelude.{Ok, Err}
+use Rattle.std.specs.Prelude.{Option, Some, None, Ok, Err}
 use Prim.Native.Nat.{ℕ, ◌+◌, ◌*◌, ◌≤◌, ◌<◌}
 use native.Mathlib.Omega.{arith}
 use native.Mathlib.Nat.{mul-le-mul}
@@ -28,8 +28,6 @@ use Rattle.printing.proofs.LengthLaws.{twenty_digits, number_long, line_long}
 use Rattle.printing.proofs.LongestLaws.{refused_long}
 use Rattle.utilisation.specs.Utilisation.{utilisation_of}
 use Rattle.utilisation.specs.Bound.{bound_of}
-use Rattle.multiples.specs.declared.Multiple.{Multiple}
-use Rattle.multiples.specs.declared.Multiple.TheVariants.{Number, Over}
 use Rattle.multiples.specs.Multiples.{hyperperiod_of}
 use Rattle.report_lines.specs.Line.{judged_as, multiple_text, figures_text, verdict_text, line_of}
 
@@ -52,7 +50,7 @@ late_right table place h =
     good_right table (λ r e. let c : Late place ≡ Refused r = h ∙ e in let z : ◌≡◌ {A = ℕ} 0 1 = cc in omega arith)
 
 -- the texts, by what the calls give
-pub figures_are : (word table : List ℕ) {used bound : ℕ} {multiple : Multiple} → used ≡ utilisation_of (tasks_of table) →
+pub figures_are : (word table : List ℕ) {used bound : ℕ} {multiple : Option ℕ} → used ≡ utilisation_of (tasks_of table) →
     bound ≡ bound_of (task_count table) → multiple ≡ hyperperiod_of (tasks_of table) →
     word ++ (with_number (bytes_of " utilisation ") used ++ (with_number (bytes_of " bound ") bound ++ multiple_text multiple))
     ≡ word ++ figures_text table
@@ -64,7 +62,7 @@ figures_are word table {used} {bound} {multiple} p q r =
     ++ (with_number (bytes_of " utilisation ") (utilisation_of (tasks_of table)) ++ (with_number (bytes_of " bound ") n ++ multiple_text multiple)))
     q
     ∙ ap
-    (λ (m : Multiple).
+    (λ (m : Option ℕ).
     word
     ++ (with_number (bytes_of " utilisation ") (utilisation_of (tasks_of table))
     ++ (with_number (bytes_of " bound ") (bound_of (task_count table)) ++ multiple_text m)))
@@ -91,9 +89,9 @@ right_long table right =
       mul-le-mul {n₁ = 17} {m₁ = 1} {n₂ = (layout_of table).size} {m₂ = task_count table} size n.0,
     )
 
-multiple_long : (multiple : Multiple) → length (multiple_text multiple) ≤ 34
-multiple_long (Number multiple) = omega (arith, line_long (bytes_of " hyperperiod ") multiple, twenty_digits multiple)
-multiple_long Over = omega arith
+multiple_long : (multiple : Option ℕ) → length (multiple_text multiple) ≤ 34
+multiple_long (Some multiple) = omega (arith, line_long (bytes_of " hyperperiod ") multiple, twenty_digits multiple)
+multiple_long None = omega arith
 
 figures_long : (table : List ℕ) → length (figures_text table) ≤ 94
 figures_long table =

@@ -1,6 +1,6 @@
 -- What a report says of one table (SPECIFICATION 13.12; document 02, L10).
 -- Assumes nothing.
-use Rattle.std.specs.Prelude.{ℕ, List, ◌++◌}
+use Rattle.std.specs.Prelude.{ℕ, List, ◌++◌, Option, Some, None}
 use Rattle.tables.specs.Layout.{task_count, tasks_of}
 use Rattle.answering.specs.declared.Verdict.{Verdict}
 use Rattle.answering.specs.declared.Verdict.TheVariants.{Refused, Schedulable, Late}
@@ -8,8 +8,6 @@ use Rattle.response.specs.Outcome.{verdict_of}
 use Rattle.printing.specs.Text.{bytes_of, decimal_of, with_number, line_with_number, refused_line}
 use Rattle.utilisation.specs.Utilisation.{utilisation_of}
 use Rattle.utilisation.specs.Bound.{bound_of}
-use Rattle.multiples.specs.declared.Multiple.{Multiple}
-use Rattle.multiples.specs.declared.Multiple.TheVariants.{Number, Over}
 use Rattle.multiples.specs.Multiples.{hyperperiod_of}
 
 -- the verdict of a table: that of `analyse`, with room for every task
@@ -17,9 +15,9 @@ abbrev pub judged_as : List ℕ → Verdict
 judged_as table = verdict_of table 200 200
 
 -- "Also print the periods' least common multiple", "above 10^12 print "over""
-abbrev pub multiple_text : Multiple → List ℕ
-multiple_text (Number multiple) = line_with_number (bytes_of " hyperperiod ") multiple
-multiple_text Over = bytes_of " hyperperiod over\n"
+abbrev pub multiple_text : Option ℕ → List ℕ
+multiple_text (Some multiple) = line_with_number (bytes_of " hyperperiod ") multiple
+multiple_text None = bytes_of " hyperperiod over\n"
 
 -- "For each good table give utilisation in millionths", "Beside it print the Liu and Layland bound"
 abbrev pub figures_text : List ℕ → List ℕ

@@ -8,10 +8,9 @@ ghost use Rattle.printing.specs.Page.{Wrote};
 ghost use Rattle.printing.specs.Text.{bytes_of, refused_line};
 ghost use Rattle.report_lines.specs.Line.{judged_as, multiple_text, figures_text, line_of};
 
-use multiples::{Multiple, hyperperiod};
+use multiples::hyperperiod;
 use printing::Page;
 use response::Verdict;
-use tables::fields::count;
 use tables::{Refusal, TASK_COUNT_AT};
 use utilisation::{bound, utilisation};
 
@@ -52,17 +51,18 @@ fn good_text(page: &mut Page, word: &[u8], table: &[u8])
 {
     page.append(word);
     page.append_with_number(b" utilisation ", utilisation(table));
-    let tasks = count(table[TASK_COUNT_AT]);
+    let tasks = usize::from(table[TASK_COUNT_AT]);
     page.append_with_number(b" bound ", u64::from(bound(tasks)));
     multiple_text(page, hyperperiod(table));
 }
 
 // The least common multiple of the periods, at the line's end.
-fn multiple_text(page: &mut Page, multiple: Multiple)
+fn multiple_text(page: &mut Page, multiple: Option<u64>)
     ensures { Wrote page.old (multiple_text multiple) page.new }
 {
     match multiple {
-        Multiple::Number(number) => page.line_with_number(b" hyperperiod ", number),
-        Multiple::Over => page.append(b" hyperperiod over\n"),
+        Some(number) => page.line_with_number(b" hyperperiod ", number),
+        None => page.append(b" hyperperiod over
+"),
     }
 }

@@ -1,5 +1,6 @@
 -- The reports of the samples. The bound and the common multiple of large periods are not searched for, but found by their laws.
 -- Assumes nothing.
+use Rattle.std.specs.Prelude.{Some, None}
 use Prim.Native.Nat.{ℕ, ◌+◌, ◌-◌}
 use native.Mathlib.Nat.{div-one}
 use native.Mathlib.Omega.{arith}
@@ -29,7 +30,6 @@ use Rattle.response.specs.Analysis.{answer_of}
 use Rattle.response.specs.Outcome.{verdict_of}
 use Rattle.printing.specs.Text.{bytes_of, decimal_of}
 use Rattle.utilisation.proofs.BoundLaws.{first_bounds, more_bounds}
-use Rattle.multiples.specs.declared.Multiple.TheVariants.{Number, Over}
 use Rattle.multiples.specs.Multiples.{is_multiple, product_of, least_multiple, shown}
 use Rattle.multiples.proofs.DivisorLaws.{gcd_zero, gcd_remainder}
 use Rattle.multiples.proofs.MultipleLaws.{least_none, one_more, is_found, joined_first}
@@ -56,7 +56,7 @@ first : bytes_of "0 schedulable utilisation 883334 bound 779763 hyperperiod 60\n
 unfolding tabulate gather sum_of largest_of first_from first_of layout_for unless or_else first_in fields_check count_test lengths_agree priority_fits record_test row_after row_test counts_check record_check row_check head_check records_check rows_check body_check room_check table_check_spanning demand ceiling blocking_of answer_of verdict_of decimal_of
 first =
     ap (λ (text : List ℕ). decimal_of 0 ++ text)
-    (figures_are (bytes_of " schedulable") fifth {used = 883334} {multiple = Number 60} refl (sym more_bounds.0) (ap shown (sym sixty)))
+    (figures_are (bytes_of " schedulable") fifth {used = 883334} {multiple = Some 60} refl (sym more_bounds.0) (ap shown (sym sixty)))
     ∙ line_is 0 fifth {v = Schedulable} refl
 
 -- Beside a task that takes every tick no other is ever done: what it asks for in v ticks is above v.
@@ -83,7 +83,7 @@ second : bytes_of "1 late utilisation 1000001 bound 828427 hyperperiod 1000000\n
 unfolding tabulate gather sum_of largest_of first_from first_of layout_for unless or_else first_in fields_check count_test lengths_agree priority_fits record_test row_after row_test counts_check record_check row_check head_check records_check rows_check body_check room_check table_check_spanning demand ceiling blocking_of answer_of verdict_of decimal_of
 second =
     ap (λ (text : List ℕ). decimal_of 1 ++ text)
-    (figures_are (bytes_of " late") full {used = 1000001} {multiple = Number 1000000} refl (sym first_bounds.1)
+    (figures_are (bytes_of " late") full {used = 1000001} {multiple = Some 1000000} refl (sym first_bounds.1)
     (ap shown (joined_first 1000000 (omega arith))))
     ∙ line_is 1 full full_judged
 
@@ -91,7 +91,7 @@ third : bytes_of "2 schedulable utilisation 6 bound 779763 hyperperiod over\n" �
 unfolding tabulate gather sum_of largest_of first_from first_of layout_for unless or_else first_in fields_check count_test lengths_agree priority_fits record_test row_after row_test counts_check record_check row_check head_check records_check rows_check body_check room_check table_check_spanning demand ceiling blocking_of answer_of verdict_of decimal_of
 third =
     ap (λ (text : List ℕ). decimal_of 2 ++ text)
-    (figures_are (bytes_of " schedulable") primes {used = 6} {multiple = Over} refl (sym more_bounds.0) (ap shown (sym large)))
+    (figures_are (bytes_of " schedulable") primes {used = 6} {multiple = None} refl (sym more_bounds.0) (ap shown (sym large)))
     ∙ line_is 2 primes {v = Schedulable} refl
 
 fourth : bytes_of "3 refused 5 at 31\n" ≡ line_of 3 refused

@@ -1,14 +1,13 @@
 -- A morning on a cable, whole: what arrives, and what is replied (SPECIFICATION 13.13; document 02, L11). The proof is in
 -- proofs/SampleCable.antt.
 -- Assumes nothing.
-use Rattle.std.specs.Prelude.{ℕ, ◌≤◌, ◌≡◌, List, [], ◌∷◌, ◌++◌, length, take, drop, replicate}
+use Rattle.std.specs.Prelude.{ℕ, ◌≤◌, ◌≡◌, List, [], ◌∷◌, ◌++◌, length, take, drop, replicate, Ok, Err}
 use Rattle.tables.specs.declared.Refusal.TheVariants.{TooShort, LengthsDiffer, NumberOutOfRange, NoRoom}
 use Rattle.tables.specs.Refusals.{at, offset}
 use Rattle.tables.specs.FirstBytes.{most_kept}
 use Rattle.encoding.specs.Examples.{fifth, late, refused}
 use Rattle.answering.specs.declared.Verdict.TheVariants.{Refused, Schedulable, Late}
-use Rattle.intake.specs.declared.Condition.TheVariants.{Ready, ShortStore, WrongFill}
-use Rattle.intake.specs.declared.Ended.TheVariants as said
+use Rattle.intake.specs.declared.Unusable.TheVariants.{ShortStore, WrongFill}
 use Rattle.intake.specs.Intake.{held, begun}
 use Rattle.intake.specs.Events.{Event, begin, piece, end, Reply, began, took, gave, replies_of, state_after}
 
@@ -43,17 +42,17 @@ events =
 
 unfoldable pub replies : List Reply
 replies =
-    took Ready ∷ took Ready ∷ took Ready ∷ gave (said.Answered Schedulable) (1 ∷ 3 ∷ 10 ∷ 7 ∷ []) (1 ∷ 1 ∷ 4 ∷ 7 ∷ [])
-    ∷ gave (said.Answered (Refused TooShort)) sevens sevens
-    ∷ took Ready ∷ gave (said.Answered (Refused (NumberOutOfRange (offset 31)))) sevens sevens
-    ∷ took Ready ∷ began
-    ∷ took Ready ∷ took Ready ∷ gave (said.Answered (Late (at 1))) (20 ∷ 0 ∷ 7 ∷ 7 ∷ []) (1 ∷ 1 ∷ 7 ∷ 7 ∷ [])
-    ∷ took Ready ∷ gave (said.Answered (Refused (NumberOutOfRange (offset 6)))) sevens sevens
-    ∷ took Ready ∷ took Ready ∷ gave (said.Answered (Refused LengthsDiffer)) sevens sevens
-    ∷ took Ready ∷ took Ready ∷ took Ready ∷ gave (said.Answered (Refused LengthsDiffer)) sevens sevens
-    ∷ took Ready ∷ gave (said.Answered (Refused NoRoom)) sevens one
-    ∷ took Ready ∷ gave (said.Answered (Refused NoRoom)) one sevens
-    ∷ took Ready ∷ gave (said.Answered Schedulable) (1 ∷ 3 ∷ 10 ∷ 7 ∷ []) (1 ∷ 1 ∷ 4 ∷ 7 ∷ [])
+    took (Ok tt) ∷ took (Ok tt) ∷ took (Ok tt) ∷ gave (Ok Schedulable) (1 ∷ 3 ∷ 10 ∷ 7 ∷ []) (1 ∷ 1 ∷ 4 ∷ 7 ∷ [])
+    ∷ gave (Ok (Refused TooShort)) sevens sevens
+    ∷ took (Ok tt) ∷ gave (Ok (Refused (NumberOutOfRange (offset 31)))) sevens sevens
+    ∷ took (Ok tt) ∷ began
+    ∷ took (Ok tt) ∷ took (Ok tt) ∷ gave (Ok (Late (at 1))) (20 ∷ 0 ∷ 7 ∷ 7 ∷ []) (1 ∷ 1 ∷ 7 ∷ 7 ∷ [])
+    ∷ took (Ok tt) ∷ gave (Ok (Refused (NumberOutOfRange (offset 6)))) sevens sevens
+    ∷ took (Ok tt) ∷ took (Ok tt) ∷ gave (Ok (Refused LengthsDiffer)) sevens sevens
+    ∷ took (Ok tt) ∷ took (Ok tt) ∷ took (Ok tt) ∷ gave (Ok (Refused LengthsDiffer)) sevens sevens
+    ∷ took (Ok tt) ∷ gave (Ok (Refused NoRoom)) sevens one
+    ∷ took (Ok tt) ∷ gave (Ok (Refused NoRoom)) one sevens
+    ∷ took (Ok tt) ∷ gave (Ok Schedulable) (1 ∷ 3 ∷ 10 ∷ 7 ∷ []) (1 ∷ 1 ∷ 4 ∷ 7 ∷ [])
     ∷ []
 
 abbrev pub CableSample : Type 0
@@ -68,7 +67,7 @@ pub record StoresDrawn : Type 0 where
   pub taken : state_after (begun nines) (piece (1 ∷ []) ∷ piece (2 ∷ []) ∷ []) ≡ held (1 ∷ 2 ∷ replicate 4588 9) 2
   pub ended : state_after (begun nines) (piece (1 ∷ 2 ∷ []) ∷ end sevens sevens ∷ []) ≡ held (1 ∷ 2 ∷ replicate 4588 9) 0
   pub full : state_after (held nines 4589) (piece (1 ∷ 2 ∷ []) ∷ []) ≡ held (replicate 4589 9 ++ (1 ∷ [])) 4590
-  pub short : replies_of (held (8 ∷ 8 ∷ []) 1) (piece (1 ∷ []) ∷ end sevens one ∷ []) ≡ took ShortStore ∷ gave said.ShortStore sevens one ∷ []
+  pub short : replies_of (held (8 ∷ 8 ∷ []) 1) (piece (1 ∷ []) ∷ end sevens one ∷ []) ≡ took (Err ShortStore) ∷ gave (Err ShortStore) sevens one ∷ []
   pub short_left : state_after (held (8 ∷ 8 ∷ []) 1) (piece (1 ∷ []) ∷ end sevens one ∷ []) ≡ held (8 ∷ 8 ∷ []) 1
-  pub wrong : replies_of (held nines 4591) (piece (1 ∷ []) ∷ end sevens one ∷ []) ≡ took WrongFill ∷ gave said.WrongFill sevens one ∷ []
+  pub wrong : replies_of (held nines 4591) (piece (1 ∷ []) ∷ end sevens one ∷ []) ≡ took (Err WrongFill) ∷ gave (Err WrongFill) sevens one ∷ []
   pub wrong_left : state_after (held nines 4591) (piece (1 ∷ []) ∷ end sevens one ∷ []) ≡ held nines 0

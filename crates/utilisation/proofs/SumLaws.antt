@@ -5,15 +5,15 @@ use native.Mathlib.Numerals.{add-one}
 use native.Mathlib.Omega.{arith}
 use mathlib.Core.Path.{◌≡◌, refl, ◌∙◌, ap}
 use mathlib.Core.List.{List, [], ◌∷◌}
+use lib.ListN.{length}
 use Rattle.model.specs.Lists.{sum_of, tabulate}
 use Rattle.model.proofs.Lists.{sum_append}
 use Rattle.equation.proofs.RoundingLaws.{at_most}
-use Rattle.tables.specs.declared.layout.Layout.{Layout}
-use Rattle.tables.specs.Layout.{layout_of, task_count, task_at, tasks_of, period_in, cost_in}
+use Rattle.tables.specs.Layout.{word_at, task_count, task_at, tasks_of, period_in, cost_in}
 use Rattle.tables.specs.Fields.{task_count_field, period_field, cost_field}
 use Rattle.tables.specs.Meaning.{TableRight}
 use Rattle.tables.proofs.LayoutLaws.{layout_sound}
-use Rattle.tables.proofs.WalkLaws.{Walking, walking_first, walked, walking_more}
+use Rattle.tables.proofs.WalkLaws.{Walking, Turn, walked, cost_is, period_is, walking_more}
 use Rattle.utilisation.specs.Utilisation.{share_of, task_share, utilisation_of}
 
 -- the sum over the first i tasks
@@ -51,27 +51,27 @@ module _ (bytes : List ℕ) where
         )
 
 -- before the share of task i is added
-pub record Summing (bytes : List ℕ) (layout : Layout) (n i at sum : ℕ) : Type 0 where
-  pub walk : Walking bytes layout n i at
+pub record Summing (bytes : List ℕ) (size left i : ℕ) (rest : List ℕ) (sum : ℕ) : Type 0 where
+  pub walk : Walking bytes size left i rest
   pub added : sum ≡ summed bytes i
 
-pub summing_first : {bytes : List ℕ} {layout : Layout} {n : ℕ} → TableRight bytes → layout ≡ layout_of bytes → n ≡ task_count bytes →
-    Summing bytes layout n 0 5 0
+pub summing_first : {bytes rest : List ℕ} {size left : ℕ} → Walking bytes size left 0 rest → Summing bytes size left 0 rest 0
 unfolding sum_of tabulate
-summing_first right decided counted = record { walk = walking_first right decided counted; added = refl }
+summing_first walk = record { walk = walk; added = refl }
 
-module _ {bytes : List ℕ} {layout : Layout} {n i at sum : ℕ} (s : Summing bytes layout n i at sum) where
-  pub summing_all : n ≤ i → sum ≡ utilisation_of (tasks_of bytes)
-  summing_all past = s.added ∙ ap (summed bytes) (walked s.walk past)
+module _ {bytes : List ℕ} {size left i : ℕ} {rest : List ℕ} {sum : ℕ} (s : Summing bytes size left i rest sum) where
+  pub summing_all : (0 < left → length rest < size) → sum ≡ utilisation_of (tasks_of bytes)
+  summing_all none = s.added ∙ ap (summed bytes) (walked s.walk none)
 
-  module _ (h : i < n) {cost period share : ℕ} (c : cost ≡ cost_in bytes i) (p : period ≡ period_in bytes i) (e : share ≡ share_of cost period) where
+  module _ {found after : List ℕ} {kept less : ℕ} (t : Turn size left rest found kept less after)
+      {cost period share : ℕ} (c : cost ≡ word_at found 5) (p : period ≡ word_at found 1) (e : share ≡ share_of cost period) where
     next_sum : sum + share ≡ summed bytes (i + 1)
     next_sum =
-        let same : share ≡ share_of (cost_in bytes i) (period_in bytes i) = rw (e, c, p) in
+        let same : share ≡ share_of (cost_in bytes i) (period_in bytes i) = rw (e, cost_is s.walk t c, period_is s.walk t p) in
         rw (add-one i) (omega (arith, s.added, sum_more bytes i))
 
     pub next_fits : sum + share ≤ 200000000000000
-    next_fits = omega (arith, next_sum, sum_fits bytes s.walk.right (i + 1) (omega (arith, s.walk.counted)))
+    next_fits = omega (arith, next_sum, sum_fits bytes s.walk.right (i + 1) (omega (arith, s.walk.counted, t.taken)))
 
-    pub summing_more : Summing bytes layout n (i + 1) (at + layout.size) (sum + share)
-    summing_more = record { walk = walking_more s.walk h; added = next_sum }
+    pub summing_more : {next : ℕ} → next ≡ i + 1 → Summing bytes kept less next after (sum + share)
+    summing_more e = rw e (record { walk = walking_more s.walk t; added = next_sum })

@@ -6,7 +6,7 @@ ghost use Rattle.tables.specs.Layout.{tasks_of};
 ghost use Rattle.tables.specs.Meaning.{TableRight};
 ghost use Rattle.utilisation.specs.Utilisation.{share_of, utilisation_of};
 
-use tables::fields::{count, word};
+use tables::fields::word;
 use tables::{COST_AT, HEAD_SIZE, PERIOD_AT, TASK_COUNT_AT, VERSION_AT};
 
 mod bounds;
@@ -18,7 +18,7 @@ pub fn share(cost: u32, period: u32) -> u64
     requires { 1 ≤ period }
     ensures { result ≡ share_of cost period }
 {
-    (1000000 * (cost as u64) + (period as u64 - 1)) / (period as u64)
+    (1000000 * u64::from(cost)).div_ceil(u64::from(period))
 }
 
 // "and then summed", for a table that was accepted.
@@ -27,12 +27,10 @@ pub fn utilisation(table: &[u8]) -> u64
     ensures { result ≡ utilisation_of (tasks_of table.now) }
 {
     let layout = tables::layout::of(table[VERSION_AT]);
-    let n = count(table[TASK_COUNT_AT]);
-    let mut sum: u64 = 0;
-    let mut at = HEAD_SIZE;
-    for i in 0..n {
-        sum += share(word(table, at + COST_AT), word(table, at + PERIOD_AT));
-        at += layout.size;
+    let n = usize::from(table[TASK_COUNT_AT]);
+    let mut sum = 0;
+    for record in table[HEAD_SIZE..].chunks_exact(layout.size).take(n) {
+        sum += share(word(record, COST_AT), word(record, PERIOD_AT));
     }
     sum
 }

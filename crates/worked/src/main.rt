@@ -24,7 +24,6 @@ use response::{Start, Verdict};
 use std::fs::File;
 use std::io::Result;
 use streams::{fail, read_full};
-use tables::fields::count;
 
 // What each lent word holds before a call, so that a word that stays can be seen to stay.
 const FILLER: u32 = 2779096485;
@@ -56,8 +55,8 @@ fn judge_next(rt: HostRuntime, file: &mut File, number: u64) -> Result<bool> {
     if taken < 4 {
         return Ok(false);
     }
-    let length = count(head[0]) * 256 + count(head[1]);
-    judge_entry(rt, file, number, length, count(head[2]), count(head[3]))?;
+    let length = usize::from(head[0]) * 256 + usize::from(head[1]);
+    judge_entry(rt, file, number, length, usize::from(head[2]), usize::from(head[3]))?;
     Ok(true)
 }
 

@@ -1,11 +1,8 @@
 -- `answers::take_all` meets its contract: each piece is taken, and what is kept is what is kept of all that was read.
 -- Assumes nothing.
-use mathlib.Core.Path.{refl, ◌∙◌}
-use Rattle.answers.proofs.ReadLaws.{sofar_none, sofar_more}
+use mathlib.Core.Path.{◌∙◌}
+use Rattle.answers.proofs.ReadLaws.{sofar_more}
 use Rattle.answers.proofs.take_all.Goals as goal
-
-pub loop-total-init : goal.loop-total-init
-loop-total-init g c = sofar_none c.begin.ensures c.requires refl
 
 pub loop-total-preserved : goal.loop-total-preserved
 loop-total-preserved g c =

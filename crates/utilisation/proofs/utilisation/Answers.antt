@@ -1,24 +1,49 @@
 -- `utilisation::utilisation` meets its contract: each turn adds the share of one task more.
 -- Assumes nothing.
-use native.Mathlib.Omega.{arith}
-use Rattle.tables.proofs.WalkLaws.{record_there, period_is, cost_is, period_within}
-use Rattle.utilisation.proofs.SumLaws.{summing_first, next_fits, summing_more}
+use Rattle.std.proofs.Common.{rules, arith}
+use Rattle.std.proofs.lemmas.List.{length_push}
+use Rattle.tables.proofs.WalkLaws.{turn, some_bytes, walking_first, found_long, period_is, period_within}
+use Rattle.utilisation.proofs.SumLaws.{summing_first, summing_all, next_fits, summing_more}
 use Rattle.utilisation.proofs.utilisation.Goals as goal
 
-pub loop-i-init : goal.loop-i-init
-loop-i-init c = summing_first c.requires c.of-layout.ensures c.count-n.ensures.0
+pub chunks_exact-requires : goal.chunks_exact-requires
+chunks_exact-requires c = some_bytes c.requires c.of-layout.ensures
+
+pub loop-record-init : goal.loop-record-init
+loop-record-init c =
+    let some = some_bytes c.requires c.of-layout.ensures in (
+      search rules,
+      tt,
+      summing_first
+          (walking_first c.requires c.of-layout.ensures (cc) (cc)
+          (rw (c.into_iter-record-iterator.ensures.into_iter_gives, c.take-record-items.ensures.source) c.chunks_exact.ensures.rest)),
+    )
 
 pub word-requires : goal.word-requires
-word-requires c = omega (arith, record_there c.loop-i.invariant.walk c.loop-i-test.true)
+word-requires c = omega (arith, found_long c.loop-record.invariant.2.walk (turn c.in-Some.ensures.steps))
 
-pub word-requires-in-loop-i : goal.word-requires-in-loop-i
-word-requires-in-loop-i c = omega (arith, record_there c.loop-i.invariant.walk c.loop-i-test.true)
+pub word-requires-in-loop-record : goal.word-requires-in-loop-record
+word-requires-in-loop-record c = omega (arith, found_long c.loop-record.invariant.2.walk (turn c.in-Some.ensures.steps))
 
 pub share-sum-requires : goal.share-sum-requires
-share-sum-requires c = omega (arith, period_is c.loop-i.invariant.walk c.loop-i-test.true c.word-in-loop-i.ensures, (period_within c.loop-i.invariant.walk c.loop-i-test.true).low)
+share-sum-requires c =
+    let t = turn c.in-Some.ensures.steps in
+    omega (arith, period_is c.loop-record.invariant.2.walk t c.word-in-loop-record.ensures, (period_within c.loop-record.invariant.2.walk t).low)
 
 pub overflow_add-sum : goal.overflow_add-sum
-overflow_add-sum c = omega (arith, next_fits c.loop-i.invariant c.loop-i-test.true (cost_is c.loop-i.invariant.walk c.loop-i-test.true c.word.ensures) (period_is c.loop-i.invariant.walk c.loop-i-test.true c.word-in-loop-i.ensures) c.share-sum.ensures)
+overflow_add-sum c =
+    omega (
+      arith,
+      next_fits c.loop-record.invariant.2 (turn c.in-Some.ensures.steps) c.word.ensures c.word-in-loop-record.ensures c.share-sum.ensures,
+    )
 
-pub loop-i-preserved : goal.loop-i-preserved
-loop-i-preserved c = summing_more c.loop-i.invariant c.loop-i-test.true (cost_is c.loop-i.invariant.walk c.loop-i-test.true c.word.ensures) (period_is c.loop-i.invariant.walk c.loop-i-test.true c.word-in-loop-i.ensures) c.share-sum.ensures
+pub loop-record-preserved : goal.loop-record-preserved
+loop-record-preserved c = (
+  search rules,
+  tt,
+  summing_more c.loop-record.invariant.2 (turn c.in-Some.ensures.steps) c.word.ensures c.word-in-loop-record.ensures c.share-sum.ensures
+      (length_push _ _),
+)
+
+pub returns : goal.returns
+returns c = summing_all c.loop-record.invariant.2 (λ some. (c.in-None.ensures.steps some).1.0)
