@@ -9,7 +9,7 @@ ghost use Rattle.solver.specs.Solver.{is_late};
 ghost use Rattle.answering.specs.declared.Verdict.TheVariants.{Late};
 ghost use Rattle.answering.specs.Results.{is_schedulable};
 ghost use Rattle.answering.specs.Slices.{DecodedFits, Ranked, GroupBefore, GroupFound, slice, Answered};
-ghost use Rattle.answering.specs.Lent.{decoded_from};
+ghost use Rattle.answering.specs.Lent.{decoded_from, OfTask};
 
 use equation::{Loads, Start, first_term};
 use marks::least_first;
@@ -46,6 +46,21 @@ pub struct Tasks<'a> {
     pub latest: &'a [u32],
     pub held: &'a [u32],
     pub n: usize,
+}
+
+impl<'a> Tasks<'a> {
+    // The loads of the task at place `own`: those of the first `count` places without it.
+    pub fn loads(self, own: usize, count: usize) -> Loads<'a>
+        ensures { OfTask result self.entry own count }
+    {
+        Loads {
+            periods: self.periods,
+            costs: self.costs,
+            spreads: self.spreads,
+            own,
+            count,
+        }
+    }
 }
 
 // What is known of the tasks that share a task's priority, its group.
@@ -142,13 +157,7 @@ pub fn answer_all(
     let mut verdict = Verdict::Schedulable;
     for i in 0..tasks.n {
         group = group_of(tasks, group, i);
-        let loads = Loads {
-            periods: tasks.periods,
-            costs: tasks.costs,
-            spreads: tasks.spreads,
-            own: i,
-            count: group.count,
-        };
+        let loads = tasks.loads(i, group.count);
         let cost = Ticks(tasks.costs[i]);
         let others = Ticks(group.all.0 - cost.0);
         let base = Ticks(cost.0 + tasks.held[i]);

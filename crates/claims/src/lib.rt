@@ -131,13 +131,7 @@ fn check_all(tasks: Tasks, claims: &[u32]) -> Claimed
     let mut group = NO_GROUP;
     for i in 0..tasks.n {
         group = group_of(tasks, group, i);
-        let loads = Loads {
-            periods: tasks.periods,
-            costs: tasks.costs,
-            spreads: tasks.spreads,
-            own: i,
-            count: group.count,
-        };
+        let loads = tasks.loads(i, group.count);
         let cost = tasks.costs[i];
         let base = Ticks(cost + tasks.held[i]);
         let others = Ticks(group.all.0 - cost);

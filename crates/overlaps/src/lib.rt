@@ -17,7 +17,6 @@ ghost use Rattle.overlaps.specs.Columns.{AllFound};
 ghost use Rattle.overlaps.specs.Numbers.{code_of, found_place, PackedOutcome};
 
 use answering::{NO_GROUP, Tasks, group_of};
-use equation::Loads;
 use jobs::{Answer, longest};
 use marks::least_first;
 use model::{Place, Ticks};
@@ -154,13 +153,7 @@ fn find_all(tasks: Tasks, answers: &mut [u32], tried: &mut [u32], marks: &mut [u
     let mut found = Found::Schedulable;
     for i in 0..tasks.n {
         group = group_of(tasks, group, i);
-        let loads = Loads {
-            periods: tasks.periods,
-            costs: tasks.costs,
-            spreads: tasks.spreads,
-            own: i,
-            count: group.count,
-        };
+        let loads = tasks.loads(i, group.count);
         let cost = Ticks(tasks.costs[i]);
         let outcome = longest(
             loads,

@@ -18,14 +18,15 @@ pub overflow_sub-group : goal.overflow_sub-group
 overflow_sub-group c = own_cost _ _ _ c.loop-i.invariant.0.fits c.loop-i-test.true _ _ _ _ _ _ c.group_of-group.ensures.group_found
 
 pub longest-outcome-requires : goal.longest-outcome-requires
-longest-outcome-requires c = (
+longest-outcome-requires c = rw (c.loads-loads.ensures.periods_are, c.loads-loads.ensures.costs_are, c.loads-loads.ensures.spreads_are, c.loads-loads.ensures.own_is, c.loads-loads.ensures.count_is) (
   beginnable _ _ _ c.loop-i.invariant.0.fits c.loop-i-test.true _ _ _ _ _ _ c.group_of-group.ensures.group_found c.requires.periods_high.0 _ c.least_first-least.ensures,
   omega (arith, count_high _ _ _ c.loop-i.invariant.0.fits c.loop-i-test.true _ _ _ _ _ _ c.group_of-group.ensures.group_found, c.requires.periods_high.1, c.loop-i.invariant.4),
 )
 
 pub loop-i-preserved : goal.loop-i-preserved
-loop-i-preserved c = let word = word_is_law _ _ _ c.loop-i.invariant.0.fits c.loop-i-test.true _ _ _ _ _ _ c.group_of-group.ensures.group_found _ _ c.longest-outcome.ensures.0 in
-    let spent = tried_is_law _ _ _ c.loop-i.invariant.0.fits c.loop-i-test.true _ _ _ _ _ _ c.group_of-group.ensures.group_found _ _ c.longest-outcome.ensures.0 in (
+loop-i-preserved c = let outcome = rw (c.loads-loads.ensures.periods_are, c.loads-loads.ensures.costs_are, c.loads-loads.ensures.spreads_are, c.loads-loads.ensures.own_is, c.loads-loads.ensures.count_is) at c.longest-outcome.ensures in
+    let word = word_is_law _ _ _ c.loop-i.invariant.0.fits c.loop-i-test.true _ _ _ _ _ _ c.group_of-group.ensures.group_found _ _ outcome.0 in
+    let spent = tried_is_law _ _ _ c.loop-i.invariant.0.fits c.loop-i-test.true _ _ _ _ _ _ c.group_of-group.ensures.group_found _ _ outcome.0 in (
       walking_more _ _ _ c.loop-i.invariant.0.fits c.loop-i-test.true _ _ _ _ _ _ c.group_of-group.ensures.group_found _ _ c.loop-i.invariant.0 c.group_of-group.ensures.reached,
       result_more _ _ _ _ _ _ c.loop-i.invariant.1 word c.with_answer-found.ensures,
       filling_more _ _ _ _ _ _ c.loop-i.invariant.2 c.loop-i-test.true (c.from.ensures ∙ word),
