@@ -424,7 +424,7 @@ module _ (periods costs : List ℕ) (n t : ℕ) (before : Kept) where
           }
 
     -- Where nothing is due the slices hold what a release would leave, and the next task stays.
-    module _ (place : Option Place) (next : ℕ) (known : NextKnown n before place next) (early : t < next) where
+    module _ (place next : ℕ) (known : NextKnown n t before place next) (early : t < next) where
       later : NoneDue n t before.due
       later p h e = omega (arith, e, known.next_is, earliest_low (word_of before.due) n p h)
 
@@ -451,8 +451,8 @@ module _ (periods costs : List ℕ) (n t : ℕ) (before : Kept) where
             next_is = known.next_is ∙ earliest_same (word_of before.due) due_then n dues_stay;
           }
 
-      pub place_stays : place ≡ place_or_none (next_place (released_in periods costs n t before).ready)
-      place_stays = known.place_is ∙ ap place_or_none (next_same (word_of before.ready) word_then words_stay)
+      pub place_stays : place ≡ next_place (released_in periods costs n t before).ready
+      place_stays = known.place_is early ∙ next_same (word_of before.ready) word_then words_stay
 
     -- The words that the releases leave, one by one: those of no task have no bit.
     module _ (now : Kept) (next : ℕ) (leaves : Leaves n before (released_in periods costs n t before) now next) where

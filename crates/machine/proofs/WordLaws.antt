@@ -156,9 +156,6 @@ module _ (place : Option Place) (q : ℕ) (e : place ≡ place_or_none q) where
   pub is_place : ¬ (q ≡ 256) → IsSome place
   is_place some = rw e (rw (ne_eqb q 256 some) refl)
 
-  pub has_place : is_some place ≡ true → ¬ (q ≡ 256)
-  has_place some none = let nothing = e ∙ sym (place_none q none) in clash (is_some place) some (ap is_some nothing)
-
   pub no_place : is_some place ≡ false → q ≡ 256
   no_place none = elim (ℕ_discrete q 256) [ yes e ↦ e | no some ↦ absurd (clash (is_some place) (is_place some) none) ]
 

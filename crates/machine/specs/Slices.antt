@@ -72,9 +72,9 @@ pub record StateHeld (n t : ℕ) (k : Kept) : Type 0 where
 abbrev pub place_or_none : ℕ → Option Place
 place_or_none p = pick (eqb p 256) None (Some (record { 0 = p }))
 
--- the place of the next task, and the earliest tick at which one is due
-pub record NextKnown (n : ℕ) (k : Kept) (place : Option Place) (next : ℕ) : Type 0 where
-  pub place_is : place ≡ place_or_none (next_place (word_of k.ready))
+-- before tick t: the earliest tick at which a task is due, and the place of the next task, where nothing is due in the tick
+pub record NextKnown (n t : ℕ) (k : Kept) (place next : ℕ) : Type 0 where
+  pub place_is : t < next → place ≡ next_place (word_of k.ready)
   pub next_is : next ≡ earliest (word_of k.due) n
 
 -- what a tick, or its releases, leave in the slices: a state in place of another, and the earliest ticks at which something is due, in each

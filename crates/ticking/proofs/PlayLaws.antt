@@ -5,10 +5,10 @@ use native.Mathlib.Omega.{arith}
 use native.Mathlib.Decide.{dec_lt}
 use native.Mathlib.Numerals.{add-one}
 use mathlib.Core.Path.{◌≡◌, refl, sym, ◌∙◌, ap, subst, fun_ext}
-use mathlib.Core.Bool.{Bool, true, false}
+use mathlib.Core.Bool.{Bool}
 use mathlib.Core.List.{List, ◌++◌}
 use mathlib.Core.Logic.{inl, inr}
-use Rattle.std.specs.Prelude.{Option, None, is_some}
+use Rattle.std.specs.Prelude.{Option, Some, None, is_some}
 use Rattle.model.specs.declared.Place.{Place}
 use lib.ListN.{length, set, drop, replicate, length-replicate}
 use borrow.Author.Tests.{eq-eqb, ne_eqb}
@@ -23,7 +23,7 @@ use Rattle.model.proofs.Tests.{eqb?, ltb?, clash}
 use Rattle.machine.specs.Machine.{State, in_word, after, next_place, place_served, earliest, behind, next_in, none, played, up_to, is_quiet, ticks_played}
 use Rattle.machine.specs.Slices.{place_or_none, TasksHeld, DeadlinesHeld, Kept, kept, StateHeld, NextKnown, StartHeld, Leaves, PlayLeaves, HasNext, words_for, state_in, released_in, served_in, reported_in}
 use Rattle.machine.proofs.MachineLaws.{Next, in_tick, left_step, left_high_law, due_is_law, words_empty, tick_empty, the_next, start_ready, stay_ready, after_own}
-use Rattle.machine.proofs.WordLaws.{next_none, place_none, has_place, no_place}
+use Rattle.machine.proofs.WordLaws.{place_is, no_place}
 use Rattle.ticking.proofs.ReportLaws.{search_on, reported, report_none, report_late, report_all, report_on, report_other, report_quiet, report_own}
 use Rattle.machine.proofs.SameLaws.{Same, release_same, serve_same}
 use Rattle.machine.proofs.ReleaseLaws.{earliest_same}
@@ -45,17 +45,17 @@ module _ (periods costs : List ℕ) (n : ℕ) where
   quiet = is_quiet (word_of periods) (word_of costs) n
 
   -- before tick t: the state after the ticks before it stands in the slices, and after none of them all work was done
-  pub record Playing (limit : ℕ) (first : Kept) (t : ℕ) (k : Kept) (place : Option Place) (next : ℕ) : Type 0 where
+  pub record Playing (limit : ℕ) (first : Kept) (t : ℕ) (k : Kept) (place next : ℕ) : Type 0 where
     pub early : t ≤ limit
     pub holds : Leaves n first (engine t) k next
-    pub place_is : place ≡ place_or_none (next_place (engine t).ready)
+    pub place_is : t < next → place ≡ next_place (engine t).ready
     pub busy : first_from quiet 1 t ≡ 0
 
   module _ (tasks : TasksHeld periods costs n) (limit : ℕ) (short : limit ≤ 1000000) (first : Kept) (start : StartHeld n first) where
     few : n ≤ 256
     few = omega (arith, tasks.few)
 
-    pub playing_none : Playing limit first 0 first None 0
+    pub playing_none : Playing limit first 0 first 0 0
     unfolding after first_from
     playing_none =
         record {
@@ -71,7 +71,7 @@ module _ (periods costs : List ℕ) (n : ℕ) where
                     (λ w h. start.no_next w h ∙ sym (first_due (in_word n w) (omega arith))) (λ w h. refl);
                 next_is = sym (first_due n tasks.some);
               };
-          place_is = place_none (next_place (engine 0).ready) (next_none (engine 0).ready 0 4 (λ w h. refl));
+          place_is = λ h. absurd (omega arith);
           busy = refl;
         }
 
@@ -83,7 +83,7 @@ module _ (periods costs : List ℕ) (n : ℕ) where
         (λ z. clash (quiet (suc t)) (eq-eqb (next_place (engine (suc t)).ready) 256 z)
         (missed quiet 1 (suc t) (omega arith) busy (suc t) (omega arith) (omega arith)))
 
-    module _ (t : ℕ) (k : Kept) (place : Option Place) (next : ℕ) (play : Playing limit first t k place next) where
+    module _ (t : ℕ) (k : Kept) (place next : ℕ) (play : Playing limit first t k place next) where
       pub left_long_law : length k.left ≡ length first.left
       left_long_law = ap length play.holds.left_is ∙ length_filled (engine t).left n first.left start.left_long
 
@@ -154,10 +154,10 @@ module _ (periods costs : List ℕ) (n : ℕ) where
             not_past = λ p h. omega (arith, same.due p h, (due_is_law (word_of periods) (word_of costs) n tasks.period_low t p h).2);
           }
 
-      pub state_known : NextKnown n k place next
+      pub state_known : NextKnown n t k place next
       state_known =
           record {
-            place_is = play.place_is ∙ ap (λ (ready : ℕ → ℕ). place_or_none (next_place ready)) (sym same.ready);
+            place_is = λ h. play.place_is h ∙ ap next_place (sym same.ready);
             next_is = play.holds.next_is ∙ earliest_same (engine t).due (word_of k.due) n (λ p h. sym (same.due p h));
           }
 
@@ -282,21 +282,22 @@ module _ (periods costs : List ℕ) (n : ℕ) where
         follows : following ≡ place_or_none (next_place (engine (suc t)).ready)
         follows = is ∙ ap (λ (ready : ℕ → ℕ). place_or_none (next_place ready)) served_same.ready
 
-        is_over : is_some following ≡ false → next_place (engine (suc t)).ready ≡ 256
-        is_over = no_place following (next_place (engine (suc t)).ready) follows
+        is_over : following ≡ None → next_place (engine (suc t)).ready ≡ 256
+        is_over none = no_place following (next_place (engine (suc t)).ready) follows (ap is_some none)
 
         -- where work is left, the play goes on
-        pub playing_more : (u : ℕ) → u ≡ t + 1 → t < limit → is_some following ≡ true → Playing limit first u now following again
-        playing_more u one more some =
+        pub playing_more : (u : ℕ) → u ≡ t + 1 → t < limit → (p : Place) → following ≡ Some p → Playing limit first u now p.0 again
+        playing_more u one more p some =
+            let here = place_is following (next_place (engine (suc t)).ready) follows p some in
             rw (one, add-one) (record {
               early = more;
               holds = leaves_next;
-              place_is = follows;
-              busy = search_on quiet t (ne_eqb (next_place (engine (suc t)).ready) 256 (has_place following (next_place (engine (suc t)).ready) follows some)) ∙ play.busy;
+              place_is = λ h. here.0;
+              busy = search_on quiet t (ne_eqb (next_place (engine (suc t)).ready) 256 here.1) ∙ play.busy;
             })
 
         -- where none is left, it stops, and it is the first tick with that
-        pub stops_quiet : (u : ℕ) → u ≡ t + 1 → t < limit → is_some following ≡ false → PlayLeaves periods costs n limit first now u following again
+        pub stops_quiet : (u : ℕ) → u ≡ t + 1 → t < limit → following ≡ None → PlayLeaves periods costs n limit first now u None again
         unfolding ticks_played
         stops_quiet u one more all =
             let found : first_from quiet 1 limit ≡ suc t = finds quiet 1 limit (suc t) (record {
@@ -306,11 +307,11 @@ module _ (periods costs : List ℕ) (n : ℕ) where
               first = λ v low high. missed quiet 1 t (omega arith) play.busy v low (omega arith);
             }) in
             rw (one, add-one)
-            (record { ticks_are = rw (found, ne_eqb (suc t) 0 (omega arith)) refl; state_is = leaves_next; place_is = follows })
+            (record { ticks_are = rw (found, ne_eqb (suc t) 0 (omega arith)) refl; state_is = leaves_next; place_is = sym all ∙ follows })
 
         -- and all is told
         pub told_all : (deadlines old reports : List ℕ) →
-            reports ≡ filled (reported (word_of periods) (word_of costs) n (word_of deadlines) (t + 1)) n old → t < limit → is_some following ≡ false →
+            reports ≡ filled (reported (word_of periods) (word_of costs) n (word_of deadlines) (t + 1)) n old → t < limit → following ≡ None →
             reports ≡ filled (played (word_of periods) (word_of costs) n (up_to limit (word_of deadlines))) n old
         told_all deadlines old reports are more all =
             rw add-one at are
@@ -323,12 +324,13 @@ module _ (periods costs : List ℕ) (n : ℕ) where
       at_limit : limit ≤ t → t ≡ limit
       at_limit past = omega (arith, play.early)
 
-      pub stops_late : limit ≤ t → PlayLeaves periods costs n limit first k limit place next
+      pub stops_late : limit ≤ t → (found : Option Place) → found ≡ place_or_none (next_place (word_of k.ready)) →
+          PlayLeaves periods costs n limit first k limit found next
       unfolding ticks_played
-      stops_late past =
+      stops_late past found is =
           let nothing : first_from quiet 1 limit ≡ 0 = ap (first_from quiet 1) (sym (at_limit past)) ∙ play.busy in
-          subst (λ (u : ℕ). PlayLeaves periods costs n limit first k u place next) (at_limit past)
-          (record { ticks_are = rw nothing (at_limit past); state_is = play.holds; place_is = play.place_is })
+          subst (λ (u : ℕ). PlayLeaves periods costs n limit first k u found next) (at_limit past)
+          (record { ticks_are = rw nothing (at_limit past); state_is = play.holds; place_is = is ∙ ap (λ (ready : ℕ → ℕ). place_or_none (next_place ready)) same.ready })
 
       pub told_late : (deadlines old answers : List ℕ) → answers ≡ filled (reported (word_of periods) (word_of costs) n (word_of deadlines) t) n old →
           limit ≤ t → answers ≡ filled (played (word_of periods) (word_of costs) n (up_to limit (word_of deadlines))) n old

@@ -13,18 +13,20 @@ use machine::words::next_place;
 use machine::{release, words};
 use model::{Place, Ticks};
 
-// What lies ahead: the next task's place, where a task has work, and the earliest tick at which a task is due.
+// What a tick is told: the place that it serves where nothing is due, and the earliest tick at which a task is due.
 #[derive(Clone, Copy, Debug, PartialEq, Eq)]
 pub struct Ahead {
-    pub place: Option<Place>,
+    pub place: Place,
     pub next: Ticks,
 }
 
-// The place served in a tick, and what the engine goes on with.
+// The place served in a tick, and what the engine goes on with: the place of the next task, where a task has work, and the earliest tick at which
+// a task is due.
 #[derive(Clone, Copy, Debug, PartialEq, Eq)]
 pub struct Tick {
     pub place: Place,
-    pub ahead: Ahead,
+    pub following: Option<Place>,
+    pub next: Ticks,
 }
 
 // Writes that the first job of a place is done after tick `at`, where the deadline is not past. Up to the deadline, which is within
@@ -69,7 +71,8 @@ fn serve(
     next_place(ready, tasks.words)
 }
 
-// The releases of a tick, and what lies ahead of it then: the place that it serves. A tick before the next release has nothing to look at.
+// The releases of a tick, the place that it serves, and the earliest tick at which a task is due then. A tick before the next release has nothing
+// to look at.
 fn begin(
     tasks: Tasks,
     at: Ticks,
@@ -80,16 +83,18 @@ fn begin(
     ahead: Ahead,
 ) -> Ahead
     requires tasks_held { TasksHeld tasks.periods.now tasks.costs.now tasks.n × (at.0 < 1000000) }
-    requires state_held { StateHeld tasks.n at.0 (kept left.old due.old ready.old nexts.old) × NextKnown tasks.n (kept left.old due.old ready.old nexts.old) ahead.place ahead.next.0 }
+    requires state_held { StateHeld tasks.n at.0 (kept left.old due.old ready.old nexts.old) × NextKnown tasks.n at.0 (kept left.old due.old ready.old nexts.old) ahead.place.0 ahead.next.0 }
+    requires has_next { HasNext tasks.n (released_in tasks.periods.now tasks.costs.now tasks.n at.0 (kept left.old due.old ready.old nexts.old)) }
     ensures leaves { Leaves tasks.entry.n (kept left.old due.old ready.old nexts.old) (released_in tasks.entry.periods.now tasks.entry.costs.now tasks.entry.n at.0 (kept left.old due.old ready.old nexts.old)) (kept left.new due.new ready.new nexts.new) result.next.0 }
-    ensures place_value { result.place ≡ place_or_none (spec.next_place (released_in tasks.entry.periods.now tasks.entry.costs.now tasks.entry.n at.0 (kept left.old due.old ready.old nexts.old)).ready) }
+    ensures place_value { result.place.0 ≡ spec.next_place (released_in tasks.entry.periods.now tasks.entry.costs.now tasks.entry.n at.0 (kept left.old due.old ready.old nexts.old)).ready }
 {
     if at.0 < ahead.next.0 {
         return ahead;
     }
     let next = release::release(tasks, at, left, due, ready, nexts);
+    let found = next_place(ready, tasks.words);
     Ahead {
-        place: next_place(ready, tasks.words),
+        place: found.unwrap(),
         next,
     }
 }
@@ -107,22 +112,19 @@ pub fn step(
 ) -> Tick
     requires tasks_held { TasksHeld tasks.periods.now tasks.costs.now tasks.n }
     requires n_in_bounds { (tasks.n ≤ length tasks.deadlines.now) × (tasks.n ≤ length answers.old) × (at.0 < 1000000) }
-    requires state_held { StateHeld tasks.n at.0 (kept left.old due.old ready.old nexts.old) × NextKnown tasks.n (kept left.old due.old ready.old nexts.old) ahead.place ahead.next.0 }
+    requires state_held { StateHeld tasks.n at.0 (kept left.old due.old ready.old nexts.old) × NextKnown tasks.n at.0 (kept left.old due.old ready.old nexts.old) ahead.place.0 ahead.next.0 }
     requires has_next { HasNext tasks.n (released_in tasks.periods.now tasks.costs.now tasks.n at.0 (kept left.old due.old ready.old nexts.old)) }
-    ensures leaves { Leaves tasks.entry.n (kept left.old due.old ready.old nexts.old) (served_in tasks.entry.periods.now tasks.entry.costs.now tasks.entry.n at.0 (kept left.old due.old ready.old nexts.old)) (kept left.new due.new ready.new nexts.new) result.ahead.next.0 }
+    ensures leaves { Leaves tasks.entry.n (kept left.old due.old ready.old nexts.old) (served_in tasks.entry.periods.now tasks.entry.costs.now tasks.entry.n at.0 (kept left.old due.old ready.old nexts.old)) (kept left.new due.new ready.new nexts.new) result.next.0 }
     ensures place_value { result.place.0 ≡ spec.next_place (released_in tasks.entry.periods.now tasks.entry.costs.now tasks.entry.n at.0 (kept left.old due.old ready.old nexts.old)).ready }
-    ensures following_value { result.ahead.place ≡ place_or_none (spec.next_place (served_in tasks.entry.periods.now tasks.entry.costs.now tasks.entry.n at.0 (kept left.old due.old ready.old nexts.old)).ready) }
+    ensures following_value { result.following ≡ place_or_none (spec.next_place (served_in tasks.entry.periods.now tasks.entry.costs.now tasks.entry.n at.0 (kept left.old due.old ready.old nexts.old)).ready) }
     ensures answers_after { answers.new ≡ set answers.old result.place.0 (reported_in ((released_in tasks.entry.periods.now tasks.entry.costs.now tasks.entry.n at.0 (kept left.old due.old ready.old nexts.old)).left result.place.0) at.0 (word_of tasks.entry.deadlines.now result.place.0) (word_of answers.old result.place.0)) }
 {
     let begun = begin(tasks, at, left, due, ready, nexts, ahead);
-    let place = begun.place.unwrap();
-    let following = serve(tasks, at, place, left, ready, answers);
+    let following = serve(tasks, at, begun.place, left, ready, answers);
     Tick {
-        place,
-        ahead: Ahead {
-            place: following,
-            next: begun.next,
-        },
+        place: begun.place,
+        following,
+        next: begun.next,
     }
 }
 
@@ -134,11 +136,13 @@ pub fn largest(words: &[u32], n: usize) -> Ticks
     Ticks(words[..n].iter().fold(0, |found, word| found.max(*word)))
 }
 
-// Where a play stops: the number of ticks that it played, and what lies ahead of them.
+// Where a play stops: the number of ticks that it played, the next task's place after them, where a task has work, and the earliest tick at which
+// a task is due.
 #[derive(Clone, Copy, Debug, PartialEq, Eq)]
 pub struct Stopped {
     pub ticks: Ticks,
-    pub ahead: Ahead,
+    pub place: Option<Place>,
+    pub next: Ticks,
 }
 
 // Plays all n tasks at once, from tick 0, and writes when the first job of each is done: a 0 where none is. It plays at most `limit` ticks, and
@@ -156,26 +160,30 @@ pub fn play_all(
     requires deadlines_held { DeadlinesHeld tasks.periods.now tasks.deadlines.now tasks.n }
     requires start_held { StartHeld tasks.n (kept left.old due.old ready.old nexts.old) }
     requires limit_bound { (limit.0 ≤ 1000000) × (tasks.n ≤ length answers.old) }
-    ensures play_leaves { PlayLeaves tasks.entry.periods.now tasks.entry.costs.now tasks.entry.n limit.0 (kept left.old due.old ready.old nexts.old) (kept left.new due.new ready.new nexts.new) result.ticks.0 result.ahead.place result.ahead.next.0 }
+    ensures play_leaves { PlayLeaves tasks.entry.periods.now tasks.entry.costs.now tasks.entry.n limit.0 (kept left.old due.old ready.old nexts.old) (kept left.new due.new ready.new nexts.new) result.ticks.0 result.place result.next.0 }
     ensures answers_after { answers.new ≡ filled (spec.played (word_of tasks.entry.periods.now) (word_of tasks.entry.costs.now) tasks.entry.n (spec.up_to limit.0 (word_of tasks.entry.deadlines.now))) tasks.entry.n answers.old }
 {
     answers[..tasks.n].fill(0);
+    // all tasks are due in the first tick, which finds its place
     let mut ahead = Ahead {
-        place: None,
+        place: Place(0),
         next: Ticks(0),
     };
     for at in 0..limit.0 {
         let tick = step(tasks, Ticks(at), left, due, ready, nexts, ahead, answers);
-        ahead = tick.ahead;
-        if ahead.place.is_none() {
+        let next = tick.next;
+        let Some(place) = tick.following else {
             return Stopped {
                 ticks: Ticks(at + 1),
-                ahead,
+                place: None,
+                next,
             };
-        }
+        };
+        ahead = Ahead { place, next };
     }
     Stopped {
         ticks: limit,
-        ahead,
+        place: next_place(ready, tasks.words),
+        next: ahead.next,
     }
 }
