@@ -78,14 +78,12 @@ fn head(out: &mut [u8], version: u8, size: usize, tasks: usize, sections: usize)
     ensures { Appended out.old 0 (head_kept version size tasks sections) result out.new }
 {
     let whole = 5 + size * tasks + 6 * sections;
-    let bytes = [
-        version,
-        (whole / 256) as u8,
-        (whole % 256) as u8,
-        tasks as u8,
-        sections as u8,
-    ];
-    append(out, 0, &bytes)
+    let length = (whole as u16).to_be_bytes();
+    append(
+        out,
+        0,
+        &[version, length[0], length[1], tasks as u8, sections as u8],
+    )
 }
 
 // A number in four bytes.
