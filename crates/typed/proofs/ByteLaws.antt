@@ -1,13 +1,17 @@
 -- The bytes of one record and one row, one after the other.
 -- Assumes nothing.
-use Prim.Native.Nat.{ℕ, ◌+◌, ◌*◌, ◌/◌, ◌%◌, ◌≤◌, ◌<◌}
-use native.Mathlib.Nat.{mul-le-mul}
+use Prim.Native.Nat.{ℕ, zero, suc, ◌+◌, ◌-◌, ◌*◌, ◌/◌, ◌%◌, ◌≤◌, ◌<◌}
+use native.Mathlib.Nat.{add-zero, mul-zero, mul-suc, mul-le-mul}
 use native.Mathlib.Omega.{arith}
-use mathlib.Core.Path.{◌≡◌, refl, ap}
+use mathlib.Core.Path.{◌≡◌, refl, ◌∙◌, ap}
 use mathlib.Core.List.{List, [], ◌∷◌, ◌++◌}
 use mathlib.Core.Logic.{inl, inr}
 use lib.Dec.{eqb}
 use Rattle.std.specs.Int.{to_be_bytes, w32}
+use Rattle.std.specs.Simd.{first_chunks}
+use lib.ListN.{length, get_or, take, drop, length-drop}
+use lib.Seq.{take_all}
+use Rattle.std.proofs.lemmas.List.{get_or-take, get_or-drop, drop-drop}
 use Rattle.model.specs.Lists.{tabulate}
 use Rattle.model.proofs.Lists.{length_tabulate}
 use Rattle.model.proofs.Tests.{bool?}
@@ -73,3 +77,67 @@ pub bytes_are : (counts : Counts) (numbers : List ℕ) {version : ℕ} {layout :
 unfolding bytes_kept
 bytes_are counts numbers {version} {layout} v l =
     rw (l, v, length_tabulate (low_task numbers) counts.tasks, length_tabulate (low_row numbers) counts.sections) refl
+
+-- the numbers of a task and of a section, cut out of the slice
+chunk_at : (n k i : ℕ) (xs : List ℕ) → i < k → get_or (first_chunks n k xs) i [] ≡ take n (drop (n * i) xs)
+chunk_at n zero i xs h = absurd (omega (arith, h))
+chunk_at n (suc k) zero xs h = rw (mul-zero n)
+chunk_at n (suc k) (suc i) xs h =
+    chunk_at n k i (drop n xs) (omega arith)
+    ∙ ap (take n) (drop-drop (n * i) n xs ∙ ap (λ (m : ℕ). drop m xs) (omega (arith, mul-suc n i)))
+
+cut_at : (n from i : ℕ) (xs : List ℕ) → i < n → get_or (take n (drop from xs)) i 0 ≡ get_or xs (from + i) 0
+cut_at n from i xs h = get_or-take n (drop from xs) i 0 h ∙ get_or-drop from xs i 0
+
+task_cut : (numbers : List ℕ) (from : ℕ) → low_task_at (take 6 (drop from numbers)) 0 ≡ low_task_at numbers from
+unfolding low_task_at
+task_cut numbers from =
+    rw (
+      cut_at 6 from 0 numbers (omega arith),
+      cut_at 6 from 1 numbers (omega arith),
+      cut_at 6 from 2 numbers (omega arith),
+      cut_at 6 from 3 numbers (omega arith),
+      cut_at 6 from 4 numbers (omega arith),
+      cut_at 6 from 5 numbers (omega arith),
+      add-zero from,
+    )
+
+row_cut : (numbers : List ℕ) (from : ℕ) → low_row_at (take 3 (drop from numbers)) 0 ≡ low_row_at numbers from
+unfolding low_row_at
+row_cut numbers from =
+    rw (
+      cut_at 3 from 0 numbers (omega arith),
+      cut_at 3 from 1 numbers (omega arith),
+      cut_at 3 from 2 numbers (omega arith),
+      add-zero from,
+    )
+
+abbrev pub from_on : ℕ → List ℕ → List ℕ
+from_on first numbers = take (length numbers - first) (drop first numbers)
+
+from_on_is : (first : ℕ) (numbers : List ℕ) → from_on first numbers ≡ drop first numbers
+from_on_is first numbers = take_all (length numbers - first) (drop first numbers) (omega (arith, length-drop first numbers))
+
+-- the chunk of a place, of those that count
+chunk_is : (n first count i : ℕ) (numbers : List ℕ) {chunks : List (List ℕ)} →
+    chunks ≡ first_chunks n (length (from_on first numbers) / n) (from_on first numbers) → i < length (drop first numbers) / n → i < count →
+    get_or (take count chunks) i [] ≡ take n (drop (first + n * i) numbers)
+chunk_is n first count i numbers {chunks} e h k =
+    get_or-take count chunks i [] k
+    ∙ ap (λ (all : List (List ℕ)). get_or all i []) (e ∙ ap (λ (xs : List ℕ). first_chunks n (length xs / n) xs) (from_on_is first numbers))
+    ∙ chunk_at n (length (drop first numbers) / n) i (drop first numbers) h
+    ∙ ap (take n) (drop-drop (n * i) first numbers)
+
+pub task_chunk : (count i : ℕ) (numbers : List ℕ) {chunks : List (List ℕ)} →
+    chunks ≡ first_chunks 6 (length (from_on 193 numbers) / 6) (from_on 193 numbers) → length numbers ≡ 1393 → count ≤ 200 → i < count →
+    low_task_at (get_or (take count chunks) i []) 0 ≡ low_task numbers i
+task_chunk count i numbers e long few h =
+    ap (λ (fields : List ℕ). low_task_at fields 0) (chunk_is 6 193 count i numbers e (omega (arith, length-drop 193 numbers, long, few, h)) h)
+    ∙ task_cut numbers (193 + 6 * i)
+
+pub row_chunk : (count i : ℕ) (numbers : List ℕ) {chunks : List (List ℕ)} →
+    chunks ≡ first_chunks 3 (length (from_on 1 numbers) / 3) (from_on 1 numbers) → length numbers ≡ 1393 → count ≤ 64 → i < count →
+    low_row_at (get_or (take count chunks) i []) 0 ≡ low_row numbers i
+row_chunk count i numbers e long few h =
+    ap (λ (fields : List ℕ). low_row_at fields 0) (chunk_is 3 1 count i numbers e (omega (arith, length-drop 1 numbers, long, few, h)) h)
+    ∙ row_cut numbers (1 + 3 * i)

@@ -78,14 +78,12 @@ fn head(out: &mut [u8], version: u8, size: usize, tasks: usize, sections: usize)
     ensures { Appended out.old 0 (head_kept version size tasks sections) result out.new }
 {
     let whole = 5 + size * tasks + 6 * sections;
-    let bytes = [
-        version,
-        (whole / 256) as u8,
-        (whole % 256) as u8,
-        tasks as u8,
-        sections as u8,
-    ];
-    append(out, 0, &bytes)
+    let length = (whole as u16).to_be_bytes();
+    append(
+        out,
+        0,
+        &[version, length[0], length[1], tasks as u8, sections as u8],
+    )
 }
 
 // A number in four bytes.
@@ -109,24 +107,23 @@ fn tasks(out: &mut [u8], at: usize, delays: DelayFields, numbers: &[u32], count:
     requires numbers_len { length numbers.now ≡ 1393 }
     ensures { Appended out.old at (joined (record_bytes delays) (tabulate (low_task numbers.now) count)) result out.new }
 {
+    let (all, _) = numbers[193..].as_chunks();
     let mut next = at;
-    for i in 0..count {
-        next = task(out, next, delays, numbers, 193 + 6 * i);
+    for fields in &all[..count] {
+        next = task(out, next, delays, fields);
     }
     next
 }
 
-// One task's record: its numbers stand from a place of the slice on.
-fn task(out: &mut [u8], at: usize, delays: DelayFields, numbers: &[u32], from: usize) -> usize
-    requires from_in_bounds { from + 6 ≤ length numbers.now }
-    requires numbers_len { length numbers.now ≡ 1393 }
-    ensures { Appended out.old at (record_bytes delays (low_task_at numbers.now from)) result out.new }
+// One task's record.
+fn task(out: &mut [u8], at: usize, delays: DelayFields, fields: &[u32; 6]) -> usize
+    ensures { Appended out.old at (record_bytes delays (low_task_at fields.now 0)) result out.new }
 {
-    let placed = byte(out, at, numbers[from]);
-    let timed = word(out, placed, numbers[from + 1]);
-    let costed = word(out, timed, numbers[from + 2]);
-    let limited = word(out, costed, numbers[from + 3]);
-    delayed(out, limited, delays, numbers[from + 4], numbers[from + 5])
+    let placed = byte(out, at, fields[0]);
+    let timed = word(out, placed, fields[1]);
+    let costed = word(out, timed, fields[2]);
+    let limited = word(out, costed, fields[3]);
+    delayed(out, limited, delays, fields[4], fields[5])
 }
 
 // J, which is the latest delay, or both delays (SPECIFICATION 2.2).
@@ -152,21 +149,20 @@ fn sections(out: &mut [u8], at: usize, numbers: &[u32], count: usize) -> usize
     requires numbers_len { length numbers.now ≡ 1393 }
     ensures { Appended out.old at (joined row_bytes (tabulate (low_row numbers.now) count)) result out.new }
 {
+    let (all, _) = numbers[1..].as_chunks();
     let mut next = at;
-    for k in 0..count {
-        next = section(out, next, numbers, 1 + 3 * k);
+    for fields in &all[..count] {
+        next = section(out, next, fields);
     }
     next
 }
 
-fn section(out: &mut [u8], at: usize, numbers: &[u32], from: usize) -> usize
-    requires from_in_bounds { from + 3 ≤ length numbers.now }
-    requires numbers_len { length numbers.now ≡ 1393 }
-    ensures { Appended out.old at (row_bytes (low_row_at numbers.now from)) result out.new }
+fn section(out: &mut [u8], at: usize, fields: &[u32; 3]) -> usize
+    ensures { Appended out.old at (row_bytes (low_row_at fields.now 0)) result out.new }
 {
-    let placed = byte(out, at, numbers[from]);
-    let held = byte(out, placed, numbers[from + 1]);
-    word(out, held, numbers[from + 2])
+    let placed = byte(out, at, fields[0]);
+    let held = byte(out, placed, fields[1]);
+    word(out, held, fields[2])
 }
 
 // The one line for a text that can't be read.

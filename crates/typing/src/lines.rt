@@ -102,7 +102,7 @@ impl Kind {
     }
 
     // Which of six fields the number at this place of the line is for: the last one is the latest delay, which is J.
-    pub fn field(self, at: usize) -> usize
+    pub(crate) fn field(self, at: usize) -> usize
         ensures { result ≡ field_for self at }
     {
         match self {
@@ -113,7 +113,7 @@ impl Kind {
 
     // Is it a number that the field at this place of the line holds?
     #[tactic(auto, using(std::proofs::lemmas::Bool::Decides::nat_tests), unfolding(crate::specs::Lines::is_taken))]
-    pub fn is_taken(self, count: usize, number: u32) -> bool
+    pub(crate) fn is_taken(self, count: usize, number: u32) -> bool
         ensures { result ≡ is_taken self count number }
     {
         count < self.needed() && number <= self.limit(count)
@@ -121,14 +121,14 @@ impl Kind {
 
     // Are all of its numbers there?
     #[tactic(auto, using(std::proofs::lemmas::Bool::Decides::nat_tests), unfolding(crate::specs::Lines::is_whole))]
-    pub fn is_whole(self, count: usize) -> bool
+    pub(crate) fn is_whole(self, count: usize) -> bool
         ensures { result ≡ is_whole self count }
     {
         self.needed() <= count
     }
 
     // Where the numbers of the next line of this kind begin.
-    pub fn slot(self, counts: Counts) -> usize
+    pub(crate) fn slot(self, counts: Counts) -> usize
         requires { Few counts }
         ensures { (result ≡ slot_for self counts) × (result + 6 < 18446744073709551616) }
     {
@@ -140,7 +140,7 @@ impl Kind {
     }
 
     // How many of the fields they are.
-    pub fn size(self) -> usize
+    pub(crate) fn size(self) -> usize
         ensures { (result ≡ size_for self) × (result ≤ 6) }
     {
         match self {
@@ -151,7 +151,7 @@ impl Kind {
     }
 
     // Where the line's number goes.
-    pub fn place_slot(self, counts: Counts) -> usize
+    pub(crate) fn place_slot(self, counts: Counts) -> usize
         requires { Few counts }
         ensures { result ≡ place_slot self counts }
     {

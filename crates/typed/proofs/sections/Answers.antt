@@ -1,11 +1,16 @@
 -- `typed::sections` meets its contract: each turn appends one more.
 -- Assumes nothing.
-use mathlib.Core.Path.{refl}
+use Prim.Native.Nat.{◌<◌}
+use native.Mathlib.Omega.{arith}
+use lib.ListN.{length-take}
 use Rattle.printing.proofs.JoinedLaws.{lines_none, lines_more_law}
+use Rattle.typed.proofs.ByteLaws.{row_chunk}
 use Rattle.typed.proofs.sections.Goals as goal
 
-pub loop-k-init : goal.loop-k-init
-loop-k-init c = lines_none _ _ _ _ _
+pub loop-fields-init : goal.loop-fields-init
+loop-fields-init c = lines_none _ _ _ _ _
 
-pub loop-k-preserved : goal.loop-k-preserved
-loop-k-preserved c = lines_more_law c.loop-k.invariant c.loop-k-test.true refl c.section-next.ensures
+pub loop-fields-preserved : goal.loop-fields-preserved
+loop-fields-preserved c =
+    let counts : c.loop-fields.fields-index < c.args.count = omega (arith, c.loop-fields-test.true, length-take c.args.count c.as_chunks.result.0.now) in
+    lines_more_law c.loop-fields.invariant counts (row_chunk c.args.count c.loop-fields.fields-index c.args.numbers.now c.as_chunks.ensures.front c.requires.numbers_len c.requires.count_bound counts) c.section-next.ensures

@@ -3,5 +3,5 @@ use Rattle.printing.proofs.JoinedLaws.{Lines}
 use Rattle.typed.specs.Bytes.{low_row}
 use Rattle.typed.proofs.sections.Given as goal
 
-abbrev pub invariant-loop-k : goal.invariant-loop-k
-invariant-loop-k l = Lines row_bytes (low_row l.numbers) l.initial.out l.at l.count l.k l.next l.out
+abbrev pub invariant-loop-fields : goal.invariant-loop-fields
+invariant-loop-fields l = Lines row_bytes (low_row l.numbers) l.initial.out l.at l.count l.fields-index l.next l.out
