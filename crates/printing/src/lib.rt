@@ -29,7 +29,9 @@ pub fn answer_text(start: Start, table: &[u8], out: &mut [u8]) -> usize
     let mut answers = [0u32; 200];
     let mut rounds = [0u32; 200];
     let verdict = response::analyse_from(start, table, &mut answers, &mut rounds);
-    text(out, 0, table, verdict, &answers, &rounds)
+    let mut page = Page { out, at: 0 };
+    page.text(table, verdict, &answers, &rounds);
+    page.at
 }
 
 impl<'a> Page<'a> {
