@@ -18,7 +18,7 @@ use solver::solve;
 use tables::Refusal;
 
 // What is said of a table.
-#[derive(Clone, Copy)]
+#[derive(Clone, Copy, Debug, PartialEq, Eq)]
 pub enum Verdict {
     Refused(Refusal),
     Schedulable,

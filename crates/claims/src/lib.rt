@@ -26,7 +26,7 @@ use response::{Told, find_blocking, pack};
 use tables::{ONE_PERIOD, Refusal, TASK_COUNT_AT};
 
 // What is said of a list of claims.
-#[derive(Clone, Copy)]
+#[derive(Clone, Copy, Debug, PartialEq, Eq)]
 pub enum Claimed {
     // the table breaks a rule: refusals 1 to 7
     Refused(Refusal),

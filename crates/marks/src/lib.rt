@@ -91,7 +91,7 @@ fn next_below(marks: &[u32], end: usize, least: Mark, from: usize) -> usize
 }
 
 // Where a mark stands once w has come, and what the load asks for on the way.
-#[derive(Clone, Copy)]
+#[derive(Clone, Copy, Debug, PartialEq, Eq)]
 struct Step {
     mark: Mark,
     more: u64,

@@ -28,7 +28,7 @@ use response::{Told, find_blocking, has_room, pack};
 use tables::{FOUR_PERIODS, Refusal, TASK_COUNT_AT};
 
 // What is said of a table.
-#[derive(Clone, Copy)]
+#[derive(Clone, Copy, Debug, PartialEq, Eq)]
 pub enum Found {
     // the table breaks a rule, or a slice is too short: refusals 1 to 8
     Refused(Refusal),
