@@ -1,11 +1,11 @@
 -- `typed::sections` meets its contract: each turn appends one more.
 -- Assumes nothing.
 use mathlib.Core.Path.{refl}
-use Rattle.printing.proofs.JoinedLaws.{lines_none, lines_more_law}
+use Rattle.printing.proofs.JoinedLaws.{joined_none, joined_more}
 use Rattle.typed.proofs.sections.Goals as goal
 
 pub loop-k-init : goal.loop-k-init
-loop-k-init c = lines_none _ _ _ _ _
+loop-k-init c = joined_none _ _ _
 
 pub loop-k-preserved : goal.loop-k-preserved
-loop-k-preserved c = lines_more_law c.loop-k.invariant c.loop-k-test.true refl c.section-next.ensures
+loop-k-preserved c = joined_more _ _ _ c.loop-k.invariant refl c.section.ensures

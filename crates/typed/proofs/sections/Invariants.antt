@@ -1,7 +1,8 @@
-use Rattle.encoding.specs.Bytes.{row_bytes}
-use Rattle.printing.proofs.JoinedLaws.{Lines}
+use Rattle.model.specs.Lists.{tabulate}
+use Rattle.encoding.specs.Bytes.{row_bytes, joined}
+use Rattle.printing.specs.Page.{Wrote}
 use Rattle.typed.specs.Bytes.{low_row}
 use Rattle.typed.proofs.sections.Given as goal
 
 abbrev pub invariant-loop-k : goal.invariant-loop-k
-invariant-loop-k l = Lines row_bytes (low_row l.numbers) l.initial.out l.at l.count l.k l.next l.out
+invariant-loop-k l = Wrote l.initial.page (joined row_bytes (tabulate (low_row l.numbers) l.k)) l.page

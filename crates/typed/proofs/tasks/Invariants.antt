@@ -1,7 +1,8 @@
-use Rattle.encoding.specs.Bytes.{record_bytes}
-use Rattle.printing.proofs.JoinedLaws.{Lines}
+use Rattle.model.specs.Lists.{tabulate}
+use Rattle.encoding.specs.Bytes.{record_bytes, joined}
+use Rattle.printing.specs.Page.{Wrote}
 use Rattle.typed.specs.Bytes.{low_task}
 use Rattle.typed.proofs.tasks.Given as goal
 
 abbrev pub invariant-loop-i : goal.invariant-loop-i
-invariant-loop-i l = Lines (record_bytes l.delays) (low_task l.numbers) l.initial.out l.at l.count l.i l.next l.out
+invariant-loop-i l = Wrote l.initial.page (joined (record_bytes l.delays) (tabulate (low_task l.numbers) l.i)) l.page
