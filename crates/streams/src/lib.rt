@@ -1,7 +1,9 @@
 // What the programs do with a stream: they read from it, where a read that fails is the end, and say why something failed.
 #![tactic(auto)]
 
+ghost use Rattle.std.specs.Prelude.{◌≡◌, ◌≤◌, List, ℕ, length};
 ghost use Rattle.io.specs.Counts.{IsPrefixLen};
+ghost use denote.Ref.{Bor, MutBor};
 
 use std::io::{Cursor, Error, Read, Result, Write};
 
@@ -29,6 +31,21 @@ pub fn read_full<R: Read>(input: &mut R, buffer: &mut [u8]) -> usize
         done += count;
     }
     done
+}
+
+// Reads a table, and has its text put into a buffer; answers where it ends, as `text` does.
+pub fn text_of_input<R: Read, F: FnOnce(&[u8], &mut [u8]) -> usize>(
+    input: &mut R,
+    out: &mut [u8],
+    text: F,
+) -> usize
+    requires { (table : Bor (List ℕ)) (lent : MutBor (List ℕ)) → lent.now ≡ out.old → F.pre text table lent }
+    ensures { (table : Bor (List ℕ)) × (lent left : MutBor (List ℕ)) × (length table.now ≤ 4590) × (lent.now ≡ out.old) × (left.now ≡ out.new) × F.post text table lent result left }
+{
+    // one byte more than the longest table, so that a longer input is seen to be too long
+    let mut table = [0u8; 4590];
+    let length = read_full(input, &mut table);
+    text(&table[..length], out)
 }
 
 // Writes a line to standard error: what failed, as the caller names it, a colon and the system's words for why.

@@ -7,14 +7,11 @@ ghost use Rattle.writing.specs.Text.{form_text};
 ghost use Rattle.writing.specs.Longest.{longest_form};
 
 use std::io::Result;
-use streams::read_full;
+use streams::text_of_input;
 
 fn main(rt: HostRuntime) -> Result<()> {
-    // one byte more than the longest table, so that a longer input is seen to be too long
-    let mut input = [0u8; 4590];
-    let length = read_full(&mut rt.stdin(), &mut input);
     let mut out = [0u8; writing::LONGEST];
-    let end = answer(&input[..length], &mut out);
+    let end = text_of_input(&mut rt.stdin(), &mut out, answer);
     rt.write_all(&out[..end])
 }
 

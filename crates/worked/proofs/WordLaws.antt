@@ -1,92 +1,66 @@
 -- One word more of lists that are looked at from the front, and what is made of two outcomes.
 -- Assumes nothing.
-use Prim.Native.Nat.{ℕ, ◌+◌, ◌≤◌, ◌<◌}
+use Prim.Native.Nat.{ℕ, zero, suc, ◌+◌, ◌<◌}
 use native.Mathlib.Omega.{arith}
 use native.Mathlib.Numerals.{add-one}
 use mathlib.Core.Path.{◌≡◌, refl}
 use mathlib.Core.Bool.{Bool, true, false}
-use mathlib.Core.Logic.{inl, inr}
+use mathlib.Core.Logic.{inl, inr, ◌≢◌}
 use mathlib.Core.List.{List, [], ◌∷◌, ◌++◌}
-use lib.ListN.{length, get_or, drop, drop_of_length-le}
-use lib.Seq.{drop-cons}
+use lib.Dec.{eqb}
+use Rattle.std.specs.Cmp.Lexicographic.{pointwise}
+use Rattle.std.specs.Bool.{MatchBool}
+use Rattle.std.specs.List.{AllWithin, HoldsAt}
+use lib.ListN.{length, get_or}
 use borrow.Author.Tests.{eq-eqb, ne_eqb}
 use Rattle.model.proofs.Tests.{eqb?}
 use Rattle.printing.specs.Text.{bytes_of, with_number}
 use Rattle.answering.specs.declared.Verdict.{Verdict}
 use Rattle.response.specs.Verdicts.{code_of, verdict_place}
-use Rattle.worked.specs.Stay.{filler, all_filler, stays}
+use Rattle.worked.specs.Stay.{all_filler}
 use Rattle.worked.specs.Compared.{same_words, same_outcome}
-use Rattle.worked.specs.Played.{is_refused, agrees}
 use Rattle.worked.specs.Numbers.{numbers_text}
 
--- a word that has stayed, one that has not, and the end
-module _ (words : List ℕ) (i : ℕ) where
-  pub stays_on : i < length words → get_or words i 0 ≡ filler → stays words (i + 1) ≡ stays words i
-  unfolding all_filler
-  stays_on h e = rw (add-one, drop-cons words i 0 h, eq-eqb (get_or words i 0) filler e)
+-- every word holds the filler, or one does not
+all_hold : (words : List ℕ) → ((k : ℕ) → k < length words → get_or words k 0 ≡ 2779096485) → true ≡ all_filler words
+unfolding all_filler
+all_hold [] h = refl
+all_hold (word ∷ words) h = rw (eq-eqb word 2779096485 (h 0 (omega arith))) (all_hold words (λ k l. h (suc k) (omega arith)))
 
-  pub changed_here : i < length words → ¬ (get_or words i 0 ≡ filler) → stays words i ≡ false
-  unfolding all_filler
-  changed_here h d = rw (drop-cons words i 0 h, ne_eqb (get_or words i 0) filler d)
-
-  pub stays_past : length words ≤ i → stays words i ≡ true
-  unfolding all_filler
-  stays_past h = rw (drop_of_length-le words h)
-
--- lists of two lengths are not the same
-pub lengths_differ : (one other : List ℕ) → ¬ (length one ≡ length other) → false ≡ same_words one other
-unfolding same_words
-lengths_differ [] [] d = absurd (d refl)
-lengths_differ [] (y ∷ ys) d = refl
-lengths_differ (x ∷ xs) [] d = refl
-lengths_differ (x ∷ xs) (y ∷ ys) d =
-    elim (eqb? x y) [
-      | inl e ↦ rw e.0 (lengths_differ xs ys (λ l. d (omega (arith, l))))
+one_differs : (words : List ℕ) (k : ℕ) → k < length words → get_or words k 0 ≢ 2779096485 → false ≡ all_filler words
+unfolding all_filler
+one_differs [] k l d = absurd (omega arith)
+one_differs (word ∷ words) zero l d = rw (ne_eqb word 2779096485 d) refl
+one_differs (word ∷ words) (suc k) l d =
+    elim (eqb? word 2779096485) [
+      | inl e ↦ rw e.0 (one_differs words k (omega arith) d)
       | inr e ↦ rw e.0 refl
     ]
 
--- what is left of two lists after i words
-module _ (one other : List ℕ) (i : ℕ) where
-  abbrev pub same_from : Bool
-  same_from = same_words (drop i one) (drop i other)
+pub all_is : (words : List ℕ) (r : Bool) →
+    MatchBool r (AllWithin (λ (w : ℕ). w ≡ 2779096485) words 0 (length words))
+    ((k : ℕ) × (k < length words) × HoldsAt (λ (w : ℕ). w ≢ 2779096485) words k) → r ≡ all_filler words
+all_is words true h = all_hold words (λ k l. h k 0 (omega arith) l)
+all_is words false (k, l, d) = one_differs words k l (d 0)
 
-  pub same_on : i < length one → i < length other → get_or one i 0 ≡ get_or other i 0 →
-      same_words (drop (i + 1) one) (drop (i + 1) other) ≡ same_from
-  unfolding same_words
-  same_on h l e = rw (add-one, drop-cons one i 0 h, drop-cons other i 0 l, eq-eqb (get_or one i 0) (get_or other i 0) e)
+-- lists are the same, word by word
+pub pointwise_is : (one other : List ℕ) → pointwise eqb one other ≡ same_words one other
+unfolding same_words
+pointwise_is [] [] = refl
+pointwise_is [] (y ∷ ys) = refl
+pointwise_is (x ∷ xs) [] = refl
+pointwise_is (x ∷ xs) (y ∷ ys) =
+    elim (eqb? x y) [
+      | inl e ↦ rw e.0 (pointwise_is xs ys)
+      | inr e ↦ rw e.0 refl
+    ]
 
-  pub differ_here : i < length one → i < length other → ¬ (get_or one i 0 ≡ get_or other i 0) → same_from ≡ false
-  unfolding same_words
-  differ_here h l d = rw (drop-cons one i 0 h, drop-cons other i 0 l, ne_eqb (get_or one i 0) (get_or other i 0) d)
-
-  pub same_past : length one ≤ i → length other ≤ i → same_from ≡ true
-  unfolding same_words
-  same_past h l = rw (drop_of_length-le one h, drop_of_length-le other l)
-
--- two outcomes, case by case
-module _ (verdict heard : Verdict) (answers played : List ℕ) (one other : ℕ) (one_is : one ≡ code_of verdict) (other_is : other ≡ code_of heard) where
-  pub codes_differ : ¬ (one ≡ other) → false ≡ same_outcome verdict heard answers played
-  codes_differ d = rw (← one_is, ← other_is, ne_eqb one other d)
-
-  module _ (codes : one ≡ other) (here there : ℕ) (here_is : here ≡ verdict_place verdict) (there_is : there ≡ verdict_place heard) where
-    pub places_differ : ¬ (here ≡ there) → false ≡ same_outcome verdict heard answers played
-    places_differ d = rw (← one_is, ← other_is, eq-eqb one other codes, ← here_is, ← there_is, ne_eqb here there d)
-
-    pub words_decide : (r : Bool) → here ≡ there → r ≡ same_words answers played → r ≡ same_outcome verdict heard answers played
-    words_decide r places e =
-        rw (← one_is, ← other_is, eq-eqb one other codes, ← here_is, ← there_is, eq-eqb here there places) e
-
--- the engine's side, case by case
-module _ (verdict heard : Verdict) (answers played : List ℕ) where
-  pub heard_refused : (r : Bool) → is_refused heard ≡ true → r ≡ stays played 0 → r ≡ agrees verdict heard answers played
-  heard_refused r p e = rw p e
-
-  module _ (takes : is_refused heard ≡ false) where
-    pub takes_alone : is_refused verdict ≡ true → true ≡ agrees verdict heard answers played
-    takes_alone p = rw (takes, p)
-
-    pub both_take : (r : Bool) → is_refused verdict ≡ false → r ≡ same_outcome verdict heard answers played → r ≡ agrees verdict heard answers played
-    both_take r taken e = rw (takes, taken) e
+-- where the numbers and the places are the same, the words decide
+pub words_decide : (verdict heard : Verdict) (answers played : List ℕ) (one other : ℕ) → one ≡ code_of verdict → other ≡ code_of heard → one ≡ other →
+    (here there : ℕ) → here ≡ verdict_place verdict → there ≡ verdict_place heard → (r : Bool) → here ≡ there → r ≡ same_words answers played →
+    r ≡ same_outcome verdict heard answers played
+words_decide verdict heard answers played one other one_is other_is codes here there here_is there_is r places e =
+    rw (← one_is, ← other_is, eq-eqb one other codes, ← here_is, ← there_is, eq-eqb here there places) e
 
 -- one number more
 pub numbers_none : (words : List ℕ) → [] ≡ numbers_text words 0

@@ -7,7 +7,7 @@
 // with that of the slice to lend for rounds, and the table's bytes.
 #![tactic(auto)]
 
-ghost use Rattle.std.specs.Prelude.{◌<◌, ◌≡◌, length};
+ghost use Rattle.std.specs.Prelude.{◌≡◌, length};
 ghost use Rattle.printing.specs.Appended.{Appended};
 ghost use Rattle.worked.specs.Stay.{stays, stay_line};
 
@@ -41,111 +41,51 @@ fn main(rt: HostRuntime) -> Result<()> {
 
 // A proved loop has to end, and nothing says that a file does. So the loop counts the tables, up to a number that no file reaches.
 fn judge_all(rt: HostRuntime, mut file: File) -> Result<()> {
-    let mut number: u64 = 0;
-    while number < u64::MAX && judge_next(rt, &mut file, number)? {
-        number += 1;
+    for number in 0..u64::MAX {
+        if !judge_next(rt, &mut file, number)? {
+            break;
+        }
     }
     Ok(())
 }
 
-// Reads the lengths of the next entry and judges it; false where the file has ended.
+// Reads the next entry, or what there is of its table, and judges it; false where the file has ended.
 fn judge_next(rt: HostRuntime, file: &mut File, number: u64) -> Result<bool> {
     let mut head = [0u8; 4];
-    let taken = read_full(file, &mut head);
-    if taken < 4 {
+    if read_full(file, &mut head) < 4 {
         return Ok(false);
     }
-    let length = usize::from(head[0]) * 256 + usize::from(head[1]);
-    judge_entry(rt, file, number, length, usize::from(head[2]), usize::from(head[3]))?;
+    let [high, low, answers, rounds] = head;
+    let mut space = [0u8; 65536];
+    let room = &mut space[..usize::from(u16::from_be_bytes([high, low]))];
+    let taken = read_full(file, room);
+    lend(rt, number, &room[..taken], answers, rounds)?;
+    lend_past(rt, &room[..taken], answers, rounds)?;
     Ok(true)
 }
 
-// Makes room for a table of the length that its entry names.
-fn judge_entry(
-    rt: HostRuntime,
-    file: &mut File,
-    number: u64,
-    length: usize,
-    answers_length: usize,
-    rounds_length: usize,
-) -> Result<()>
-    requires length_len_bound { length < 65536 }
-    requires answers_length_bound { answers_length < 256 }
-    requires rounds_length_bound { rounds_length < 256 }
-{
-    let mut space = [0u8; 65536];
-    read_table(
-        rt,
-        file,
-        number,
-        &mut space[..length],
-        answers_length,
-        rounds_length,
-    )
-}
-
-// Reads the table, or what there is of it.
-fn read_table(
-    rt: HostRuntime,
-    file: &mut File,
-    number: u64,
-    table: &mut [u8],
-    answers_length: usize,
-    rounds_length: usize,
-) -> Result<()>
-    requires answers_length_bound { answers_length < 256 }
-    requires rounds_length_bound { rounds_length < 256 }
-{
-    let taken = read_full(file, table);
-    lend(rt, number, &table[..taken], answers_length, rounds_length)
-}
-
 // Lends slices of the lengths that the entry names; the engine's is as long as that for answers.
-fn lend(
-    rt: HostRuntime,
-    number: u64,
-    table: &[u8],
-    answers_length: usize,
-    rounds_length: usize,
-) -> Result<()>
-    requires answers_length_bound { answers_length < 256 }
-    requires rounds_length_bound { rounds_length < 256 }
-{
-    let mut answers = filler();
-    let mut rounds = filler();
-    let mut played = filler();
-    let mut old_answers = filler();
-    let mut old_rounds = filler();
+fn lend(rt: HostRuntime, number: u64, table: &[u8], answers: u8, rounds: u8) -> Result<()> {
+    let (words, counts) = (usize::from(answers), usize::from(rounds));
     judge(
         rt,
         number,
         table,
-        &mut answers[..answers_length],
-        &mut rounds[..rounds_length],
-        &mut played[..answers_length],
-        &mut old_answers[..answers_length],
-        &mut old_rounds[..rounds_length],
-    )?;
-    lend_past(rt, table, answers_length, rounds_length)
+        &mut filler()[..words],
+        &mut filler()[..counts],
+        &mut filler()[..words],
+        &mut filler()[..words],
+        &mut filler()[..counts],
+    )
 }
 
 // The same for the second analysis: two slices, as long as the first analysis's.
-fn lend_past(
-    rt: HostRuntime,
-    table: &[u8],
-    answers_length: usize,
-    tried_length: usize,
-) -> Result<()>
-    requires answers_length_bound { answers_length < 256 }
-    requires tried_length_bound { tried_length < 256 }
-{
-    let mut answers = filler();
-    let mut tried = filler();
+fn lend_past(rt: HostRuntime, table: &[u8], answers: u8, tried: u8) -> Result<()> {
     past::judge(
         rt,
         table,
-        &mut answers[..answers_length],
-        &mut tried[..tried_length],
+        &mut filler()[..usize::from(answers)],
+        &mut filler()[..usize::from(tried)],
     )
 }
 
@@ -195,8 +135,7 @@ fn judge(
 fn first_to_stay(table: &[u8], verdict: Verdict) -> Place {
     match verdict {
         Verdict::Refused(_) => Place(0),
-        Verdict::Schedulable => Place(printing::task_count(table)),
-        Verdict::Late(_) => Place(printing::task_count(table)),
+        Verdict::Schedulable | Verdict::Late(_) => Place(printing::task_count(table)),
     }
 }
 
@@ -204,14 +143,7 @@ fn first_to_stay(table: &[u8], verdict: Verdict) -> Place {
 pub fn stay(words: &[u32], first: Place) -> bool
     ensures { result ≡ stays words.now first.0 }
 {
-    let mut i = first.0;
-    while i < words.len() {
-        if words[i] != FILLER {
-            return false;
-        }
-        i += 1;
-    }
-    true
+    words.iter().skip(first.0).all(|word| *word == FILLER)
 }
 
 // Appends the last line.

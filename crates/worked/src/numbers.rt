@@ -11,7 +11,7 @@ fn append_numbers(out: &mut [u8], at: usize, words: &[u32], count: usize) -> usi
 {
     let mut next = at;
     for i in 0..count {
-        next = append_with_number(out, next, b" ", word(words, Place(i)) as u64);
+        next = append_with_number(out, next, b" ", u64::from(word(words, Place(i))));
     }
     next
 }

@@ -2,6 +2,7 @@
 ghost use Rattle.printing.specs.Appended.{Appended};
 ghost use Rattle.worked.specs.Past.{past_text};
 
+use crate::comparing::append_unless;
 use crate::numbers::append_line;
 use crate::stay;
 use model::Place;
@@ -33,11 +34,10 @@ pub fn judge(rt: HostRuntime, table: &[u8], answers: &mut [u32], tried: &mut [u3
 // The first word that is not to be written: a refusal changes no word.
 fn first_to_stay(table: &[u8], found: Found) -> Place {
     match found {
-        Found::Refused(_) => Place(0),
-        Found::Delayed => Place(0),
-        Found::Schedulable => Place(printing::task_count(table)),
-        Found::Late(_) => Place(printing::task_count(table)),
-        Found::Open(_) => Place(printing::task_count(table)),
+        Found::Refused(_) | Found::Delayed => Place(0),
+        Found::Schedulable | Found::Late(_) | Found::Open(_) => {
+            Place(printing::task_count(table))
+        }
     }
 }
 
@@ -57,8 +57,5 @@ fn append_past(
     let told = found_line(out, named, found);
     let answered = append_line(out, told, b"found", answers, count);
     let ended = append_line(out, answered, b"tried", tried, count);
-    if stayed {
-        return ended;
-    }
-    append(out, ended, b"differs\n")
+    append_unless(out, ended, stayed)
 }

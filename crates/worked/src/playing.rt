@@ -3,7 +3,7 @@ ghost use Rattle.std.specs.Prelude.{◌≡◌};
 ghost use Rattle.printing.specs.Appended.{Appended};
 ghost use Rattle.worked.specs.Played.{is_refused, agrees, played_text};
 
-use crate::comparing::same_outcome;
+use crate::comparing::{append_unless, same_outcome};
 use model::Place;
 use printing::append;
 use response::Verdict;
@@ -11,11 +11,7 @@ use response::Verdict;
 fn is_refused(verdict: Verdict) -> bool
     ensures { result ≡ is_refused verdict }
 {
-    match verdict {
-        Verdict::Refused(_) => true,
-        Verdict::Schedulable => false,
-        Verdict::Late(_) => false,
-    }
+    matches!(verdict, Verdict::Refused(_))
 }
 
 // A refusal of the engine leaves every word as it was; where neither refuses, both say the same, and leave the same words. (The
@@ -38,8 +34,5 @@ pub fn append_played(out: &mut [u8], at: usize, heard: Verdict, agreed: bool) ->
 {
     let named = append(out, at, b"engine ");
     let told = printing::verdict_line(out, named, heard);
-    if agreed {
-        return told;
-    }
-    append(out, told, b"differs\n")
+    append_unless(out, told, agreed)
 }

@@ -2,8 +2,8 @@
 ghost use Rattle.printing.specs.Appended.{Appended};
 ghost use Rattle.worked.specs.Starts.{own_cost_text};
 
+use crate::comparing::append_unless;
 use crate::numbers::append_line;
-use printing::append;
 
 // Appends the line with the rounds of `count` tasks, and one more where verdict or answers differ.
 pub fn append_own_cost(
@@ -16,8 +16,5 @@ pub fn append_own_cost(
     ensures { Appended out.old at (own_cost_text rounds.now count agreed) result out.new }
 {
     let ended = append_line(out, at, b"own cost", rounds, count);
-    if agreed {
-        return ended;
-    }
-    append(out, ended, b"differs\n")
+    append_unless(out, ended, agreed)
 }

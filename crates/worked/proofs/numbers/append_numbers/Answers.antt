@@ -1,7 +1,7 @@
 -- `worked::numbers::append_numbers` meets its contract: each turn appends one number.
 -- Assumes nothing.
 use native.Mathlib.Omega.{arith}
-use mathlib.Core.Path.{◌≡◌, ap}
+use mathlib.Core.Path.{◌≡◌, ◌∙◌, ap}
 use Rattle.printing.proofs.AppendLaws.{then, nothing, as_text}
 use Rattle.worked.specs.Numbers.{numbers_text}
 use Rattle.worked.proofs.WordLaws.{numbers_none, numbers_more}
@@ -13,7 +13,7 @@ loop-i-init c = (omega arith, as_text (nothing _ _) (numbers_none _))
 pub loop-i-preserved : goal.loop-i-preserved
 loop-i-preserved c = (
   omega (arith, c.loop-i-test.true),
-  as_text (then c.loop-i.invariant.1 c.append_with_number-next.ensures) (numbers_more _ _ _ c.word.ensures),
+  as_text (then c.loop-i.invariant.1 c.append_with_number-next.ensures) (numbers_more _ _ _ (c.from.ensures ∙ c.word.ensures)),
 )
 
 pub returns : goal.returns
