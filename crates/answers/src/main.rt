@@ -8,6 +8,7 @@ ghost use Rattle.intake.specs.Intake.{held, condition_of};
 ghost use Rattle.answers.specs.Input.{KeepsRead, PrintsAll};
 
 use intake::MOST_KEPT;
+use printing::Page;
 use std::io::{Read as Source, Result};
 use streams::read_some;
 
@@ -59,5 +60,7 @@ fn answer(store: &[u8], fill: &mut usize, out: &mut [u8]) -> usize
     let mut answers = [0u32; 200];
     let mut rounds = [0u32; 200];
     let verdict = intake::end(store, fill, &mut answers, &mut rounds).unwrap();
-    printing::text(out, 0, &store[..count], verdict, &answers, &rounds)
+    let mut page = Page { out, at: 0 };
+    page.text(&store[..count], verdict, &answers, &rounds);
+    page.at
 }

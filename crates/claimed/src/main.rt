@@ -6,6 +6,7 @@
 
 ghost use Rattle.std.specs.Prelude.{◌≤◌, ◌<◌, length};
 
+use printing::Page;
 use std::fs::File;
 use std::io::Result;
 use streams::{fail, read_full};
@@ -73,7 +74,12 @@ fn words_of(bytes: &[u8], words: &mut [u32]) -> usize
 fn check(rt: HostRuntime, number: u64, table: &[u8], claims: &[u32]) -> Result<()> {
     let claimed = claims::check_claims(table, claims);
     let mut out = [0u8; ROOM];
-    let named = printing::line_with_number(&mut out, 0, b"claims ", number);
-    let end = checking::claimed_line(&mut out, named, claimed);
+    let mut page = Page {
+        out: &mut out,
+        at: 0,
+    };
+    page.line_with_number(b"claims ", number);
+    checking::claimed_line(&mut page, claimed);
+    let end = page.at;
     rt.write_all(&out[..end])
 }

@@ -62,9 +62,6 @@ fn multiple_text(page: &mut Page, multiple: Option<u64>)
 {
     match multiple {
         Some(number) => page.line_with_number(b" hyperperiod ", number),
-        None => page.append(
-            b" hyperperiod over
-",
-        ),
+        None => page.append(b" hyperperiod over\n"),
     }
 }

@@ -6,11 +6,12 @@ ghost use Rattle.model.specs.Lists.{tabulate};
 ghost use Rattle.tables.specs.Layout.{layout_for};
 ghost use Rattle.encoding.specs.Bytes.{four_bytes, delay_bytes, record_bytes, row_bytes, joined, head_bytes};
 ghost use Rattle.printing.specs.Appended.{Appended};
+ghost use Rattle.printing.specs.Page.{Wrote};
 ghost use Rattle.typed.specs.Bytes.{low_task_at, low_row_at, low_task, low_row, delays_of, head_kept, version_kept, Roomy, bytes_kept};
 ghost use Rattle.typed.specs.Answered.{Answered};
 ghost use Rattle.typed.specs.Messages.{message_of, fault_line};
 
-use printing::{append, append_with_number};
+use printing::Page;
 use tables::layout::DelayFields;
 use typing::{Counts, Fault, Line, State};
 
@@ -41,11 +42,22 @@ pub fn table_bytes(counts: Counts, numbers: &[u32], out: &mut [u8]) -> usize
     requires numbers_len { length numbers.now ≡ 1393 }
     ensures { Appended out.old 0 (bytes_kept counts numbers.now) result out.new }
 {
+    let mut page = Page { out, at: 0 };
+    table(&mut page, counts, numbers);
+    page.at
+}
+
+// Appends them.
+fn table(page: &mut Page, counts: Counts, numbers: &[u32])
+    requires roomy { Roomy counts }
+    requires numbers_len { length numbers.now ≡ 1393 }
+    ensures { Wrote page.old (bytes_kept counts numbers.now) page.new }
+{
     let version = version_of(counts, numbers[0]);
     let layout = tables::layout::of(version);
-    let headed = head(out, version, layout.size, counts.tasks, counts.sections);
-    let next = tasks(out, headed, layout.delays, numbers, counts.tasks);
-    sections(out, next, numbers, counts.sections)
+    head(page, version, layout.size, counts.tasks, counts.sections);
+    tasks(page, layout.delays, numbers, counts.tasks);
+    sections(page, numbers, counts.sections);
 }
 
 // The version that is stated, or the lowest that can hold the table.
@@ -73,106 +85,96 @@ fn low(word: u32) -> u8
 }
 
 // The version, the length of the whole table, n and m.
-fn head(out: &mut [u8], version: u8, size: usize, tasks: usize, sections: usize) -> usize
+fn head(page: &mut Page, version: u8, size: usize, tasks: usize, sections: usize)
     requires { (size ≤ 21) × (tasks ≤ 200) × (sections ≤ 64) }
-    ensures { Appended out.old 0 (head_kept version size tasks sections) result out.new }
+    ensures { Wrote page.old (head_kept version size tasks sections) page.new }
 {
     let whole = 5 + size * tasks + 6 * sections;
     let length = (whole as u16).to_be_bytes();
-    append(
-        out,
-        0,
-        &[version, length[0], length[1], tasks as u8, sections as u8],
-    )
+    page.append(&[version, length[0], length[1], tasks as u8, sections as u8]);
 }
 
 // A number in four bytes.
 #[tactic(auto, using(crate::proofs::ByteLaws::word_bytes))]
-fn word(out: &mut [u8], at: usize, number: u32) -> usize
-    ensures { Appended out.old at (four_bytes number) result out.new }
+fn word(page: &mut Page, number: u32)
+    ensures { Wrote page.old (four_bytes number) page.new }
 {
-    append(out, at, &number.to_be_bytes())
+    page.append(&number.to_be_bytes());
 }
 
 // A number in one byte.
-fn byte(out: &mut [u8], at: usize, number: u32) -> usize
-    ensures { Appended out.old at (number % 256 ∷ []) result out.new }
+fn byte(page: &mut Page, number: u32)
+    ensures { Wrote page.old (number % 256 ∷ []) page.new }
 {
-    append(out, at, &[low(number)])
+    page.append(&[low(number)]);
 }
 
 // The records of all tasks.
-fn tasks(out: &mut [u8], at: usize, delays: DelayFields, numbers: &[u32], count: usize) -> usize
+fn tasks(page: &mut Page, delays: DelayFields, numbers: &[u32], count: usize)
     requires count_bound { count ≤ 200 }
     requires numbers_len { length numbers.now ≡ 1393 }
-    ensures { Appended out.old at (joined (record_bytes delays) (tabulate (low_task numbers.now) count)) result out.new }
+    ensures { Wrote page.old (joined (record_bytes delays) (tabulate (low_task numbers.now) count)) page.new }
 {
     let (all, _) = numbers[193..].as_chunks();
-    let mut next = at;
     for fields in &all[..count] {
-        next = task(out, next, delays, fields);
+        task(page, delays, fields);
     }
-    next
 }
 
 // One task's record.
-fn task(out: &mut [u8], at: usize, delays: DelayFields, fields: &[u32; 6]) -> usize
-    ensures { Appended out.old at (record_bytes delays (low_task_at fields.now 0)) result out.new }
+fn task(page: &mut Page, delays: DelayFields, fields: &[u32; 6])
+    ensures { Wrote page.old (record_bytes delays (low_task_at fields.now 0)) page.new }
 {
-    let placed = byte(out, at, fields[0]);
-    let timed = word(out, placed, fields[1]);
-    let costed = word(out, timed, fields[2]);
-    let limited = word(out, costed, fields[3]);
-    delayed(out, limited, delays, fields[4], fields[5])
+    byte(page, fields[0]);
+    word(page, fields[1]);
+    word(page, fields[2]);
+    word(page, fields[3]);
+    delayed(page, delays, fields[4], fields[5]);
 }
 
 // J, which is the latest delay, or both delays (SPECIFICATION 2.2).
-fn delayed(out: &mut [u8], at: usize, delays: DelayFields, earliest: u32, latest: u32) -> usize
-    ensures { Appended out.old at (delays_of delays earliest latest) result out.new }
+fn delayed(page: &mut Page, delays: DelayFields, earliest: u32, latest: u32)
+    ensures { Wrote page.old (delays_of delays earliest latest) page.new }
 {
     match delays {
-        DelayFields::Jitter => word(out, at, latest),
-        DelayFields::Pair => both(out, at, earliest, latest),
+        DelayFields::Jitter => word(page, latest),
+        DelayFields::Pair => {
+            word(page, earliest);
+            word(page, latest);
+        }
     }
-}
-
-fn both(out: &mut [u8], at: usize, earliest: u32, latest: u32) -> usize
-    ensures { Appended out.old at (four_bytes earliest ++ four_bytes latest) result out.new }
-{
-    let next = word(out, at, earliest);
-    word(out, next, latest)
 }
 
 // The rows of all sections.
-fn sections(out: &mut [u8], at: usize, numbers: &[u32], count: usize) -> usize
+fn sections(page: &mut Page, numbers: &[u32], count: usize)
     requires count_bound { count ≤ 64 }
     requires numbers_len { length numbers.now ≡ 1393 }
-    ensures { Appended out.old at (joined row_bytes (tabulate (low_row numbers.now) count)) result out.new }
+    ensures { Wrote page.old (joined row_bytes (tabulate (low_row numbers.now) count)) page.new }
 {
     let (all, _) = numbers[1..].as_chunks();
-    let mut next = at;
     for fields in &all[..count] {
-        next = section(out, next, fields);
+        section(page, fields);
     }
-    next
 }
 
-fn section(out: &mut [u8], at: usize, fields: &[u32; 3]) -> usize
-    ensures { Appended out.old at (row_bytes (low_row_at fields.now 0)) result out.new }
+fn section(page: &mut Page, fields: &[u32; 3])
+    ensures { Wrote page.old (row_bytes (low_row_at fields.now 0)) page.new }
 {
-    let placed = byte(out, at, fields[0]);
-    let held = byte(out, placed, fields[1]);
-    word(out, held, fields[2])
+    byte(page, fields[0]);
+    byte(page, fields[1]);
+    word(page, fields[2]);
 }
 
 // The one line for a text that can't be read.
 pub fn fault_line(out: &mut [u8], number: usize, fault: Fault) -> usize
     ensures { Appended out.old 0 (fault_line number fault) result out.new }
 {
-    let placed = append_with_number(out, 0, b"line ", number as u64);
-    let next = append(out, placed, b": ");
-    let said = append(out, next, message(fault));
-    append(out, said, b"\n")
+    let mut page = Page { out, at: 0 };
+    page.append_with_number(b"line ", number as u64);
+    page.append(b": ");
+    page.append(message(fault));
+    page.append(b"\n");
+    page.at
 }
 
 // What is wrong, and how it can be mended.

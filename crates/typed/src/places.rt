@@ -2,12 +2,13 @@
 ghost use Rattle.std.specs.Prelude.{◌≤◌, ◌≡◌, ltb, length};
 ghost use Rattle.model.specs.Choice.{on};
 ghost use Rattle.printing.specs.Appended.{Appended};
+ghost use Rattle.printing.specs.Page.{Wrote};
 ghost use Rattle.typing.specs.Kept.{number_at, row_line_kept};
 ghost use Rattle.typed.specs.Bytes.{Roomy, version_kept};
 ghost use Rattle.typed.specs.Places.{line_said, said, head_name, delay_name, record_name, row_name, head_said, row_said, place_kept, PlaceAnswered};
 
 use crate::{Faulty, fault_line, version_of};
-use printing::{append, append_with_number};
+use printing::Page;
 use tables::layout::DelayFields;
 use tables::{HEAD_SIZE, ROW_SIZE};
 use typing::{Counts, Line, State};
@@ -38,59 +39,59 @@ fn line_of(counts: Counts, numbers: &[u32], places: &[u64], place: usize, out: &
     ensures { Appended out.old 0 (place_kept counts (version_kept counts (number_at numbers.now 0)) places.now place) result out.new }
 {
     let version = version_of(counts, numbers[0]);
-    place_line(counts, version, places, place, out)
+    let mut page = Page { out, at: 0 };
+    place_line(&mut page, counts, version, places, place);
+    page.at
 }
 
-// The line for a byte of the table, put at the buffer's beginning; answers where it ends.
-fn place_line(counts: Counts, version: u8, places: &[u64], place: usize, out: &mut [u8]) -> usize
+// Appends the line for a byte of the table.
+fn place_line(page: &mut Page, counts: Counts, version: u8, places: &[u64], place: usize)
     requires roomy { Roomy counts }
     requires places_len { length places.now ≡ 265 }
-    ensures { Appended out.old 0 (place_kept counts version places.now place) result out.new }
+    ensures { Wrote page.old (place_kept counts version places.now place) page.new }
 {
     let layout = tables::layout::of(version);
     if place < HEAD_SIZE {
-        return in_head(place, places[0], out);
+        in_head(page, place, places[0]);
+        return;
     }
     let behind = place - HEAD_SIZE;
     let records = layout.size * counts.tasks;
     if behind < records {
         let size = layout.size;
-        return in_record(
-            places[65 + behind / size],
-            layout.delays,
-            behind % size,
-            out,
-        );
+        let line = places[65 + behind / size];
+        in_record(page, line, layout.delays, behind % size);
+    } else {
+        in_row(page, counts.sections, places, behind - records);
     }
-    in_row(counts.sections, places, behind - records, out)
 }
 
 // Of the head only the version may stand in a line.
 #[tactic(auto, using(std::proofs::lemmas::Bool::Decides::nat_tests), unfolding(crate::specs::Places::head_said))]
-fn in_head(at: usize, line: u64, out: &mut [u8]) -> usize
-    ensures { Appended out.old 0 (head_said line at) result out.new }
+fn in_head(page: &mut Page, at: usize, line: u64)
+    ensures { Wrote page.old (head_said line at) page.new }
 {
-    say(out, if at < 1 { line } else { 0 }, head_name(at))
+    say(page, if at < 1 { line } else { 0 }, head_name(at));
 }
 
-fn in_record(line: u64, delays: DelayFields, at: usize, out: &mut [u8]) -> usize
-    ensures { Appended out.old 0 (said line (record_name delays at)) result out.new }
+fn in_record(page: &mut Page, line: u64, delays: DelayFields, at: usize)
+    ensures { Wrote page.old (said line (record_name delays at)) page.new }
 {
-    say(out, line, record_name(delays, at))
+    say(page, line, record_name(delays, at));
 }
 
 // Behind the last row nothing stands in a line.
 #[tactic(auto, using(std::proofs::lemmas::Bool::Decides::nat_tests), unfolding(crate::specs::Places::row_said))]
-fn in_row(count: usize, places: &[u64], at: usize, out: &mut [u8]) -> usize
+fn in_row(page: &mut Page, count: usize, places: &[u64], at: usize)
     requires count_bound { count ≤ 64 }
     requires places_len { length places.now ≡ 265 }
-    ensures { Appended out.old 0 (row_said count (row_line_kept places.now) at) result out.new }
+    ensures { Wrote page.old (row_said count (row_line_kept places.now) at) page.new }
 {
     say(
-        out,
+        page,
         row_line(count, places, at / ROW_SIZE),
         row_name(at % ROW_SIZE),
-    )
+    );
 }
 
 fn row_line(count: usize, places: &[u64], k: usize) -> u64
@@ -102,22 +103,23 @@ fn row_line(count: usize, places: &[u64], k: usize) -> u64
 }
 
 // The line for a field of that name.
-fn say(out: &mut [u8], line: u64, name: &[u8]) -> usize
-    ensures { Appended out.old 0 (said line name.now) result out.new }
+fn say(page: &mut Page, line: u64, name: &[u8])
+    ensures { Wrote page.old (said line name.now) page.new }
 {
-    let next = say_line(out, line);
-    let named = append(out, next, name);
-    append(out, named, b"\n")
+    say_line(page, line);
+    page.append(name);
+    page.append(b"\n");
 }
 
-fn say_line(out: &mut [u8], line: u64) -> usize
-    ensures { Appended out.old 0 (line_said line) result out.new }
+fn say_line(page: &mut Page, line: u64)
+    ensures { Wrote page.old (line_said line) page.new }
 {
     if line == 0 {
-        return append(out, 0, b"no line: ");
+        page.append(b"no line: ");
+    } else {
+        page.append_with_number(b"line ", line);
+        page.append(b": ");
     }
-    let next = append_with_number(out, 0, b"line ", line);
-    append(out, next, b": ")
 }
 
 #[tactic(auto, using(std::proofs::lemmas::Bool::Decides::nat_tests), unfolding(crate::specs::Places::head_name))]
