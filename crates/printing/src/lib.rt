@@ -14,10 +14,8 @@ use response::{Start, Verdict};
 use tables::{DEADLINE_AT, HEAD_SIZE, Refusal, TASK_COUNT_AT, VERSION_AT};
 
 mod page;
-mod pieces;
 
-pub use page::Page;
-pub use pieces::{append, append_with_number, line_with_number, refusal_line, text, verdict_line};
+pub use page::{Page, append};
 
 // Bytes enough for the text of any table, and for the longest no more than enough: `longest` of specs/Longest.antt.
 pub const LONGEST: usize = 10512;
@@ -29,7 +27,9 @@ pub fn answer_text(start: Start, table: &[u8], out: &mut [u8]) -> usize
     let mut answers = [0u32; 200];
     let mut rounds = [0u32; 200];
     let verdict = response::analyse_from(start, table, &mut answers, &mut rounds);
-    text(out, 0, table, verdict, &answers, &rounds)
+    let mut page = Page { out, at: 0 };
+    page.text(table, verdict, &answers, &rounds);
+    page.at
 }
 
 impl<'a> Page<'a> {
