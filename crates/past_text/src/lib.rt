@@ -30,7 +30,7 @@ pub fn text(page: &mut Page, table: &[u8], found: Found, answers: &[u32], tried:
     ensures { Wrote page.old (past_text_of table.now found answers.now tried.now) page.new }
 {
     match found {
-        Found::Refused(_) | Found::Delayed => line(page, found),
+        Found::Refused(_) | Found::Delayed => found_line(page, found),
         Found::Schedulable | Found::Late(_) | Found::Open(_) => judged(
             page, table, found, answers, tried,
         ),
@@ -42,11 +42,11 @@ fn judged(page: &mut Page, table: &[u8], found: Found, answers: &[u32], tried: &
     ensures { Wrote page.old (judged_text table.now found answers.now tried.now) page.new }
 {
     page.tasks(table, b" tried ", answers, tried);
-    line(page, found);
+    found_line(page, found);
 }
 
-// The line that says what was found.
-fn line(page: &mut Page, found: Found)
+// Appends the line that says what was found.
+pub fn found_line(page: &mut Page, found: Found)
     ensures { Wrote page.old (found_line found) page.new }
 {
     match found {
@@ -56,13 +56,4 @@ fn line(page: &mut Page, found: Found)
         Found::Late(first) => page.line_with_number(b"late ", first.0 as u64),
         Found::Open(first) => page.line_with_number(b"open ", first.0 as u64),
     }
-}
-
-// The same at a place of a buffer; answers where the next byte goes.
-pub fn found_line(out: &mut [u8], at: usize, found: Found) -> usize
-    ensures { Appended out.old at (found_line found) result out.new }
-{
-    let mut page = Page { out, at };
-    line(&mut page, found);
-    page.at
 }

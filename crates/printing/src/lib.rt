@@ -14,10 +14,8 @@ use response::{Start, Verdict};
 use tables::{DEADLINE_AT, HEAD_SIZE, Refusal, TASK_COUNT_AT, VERSION_AT};
 
 mod page;
-mod pieces;
 
-pub use page::Page;
-pub use pieces::{append, append_with_number, line_with_number, refusal_line, text, verdict_line};
+pub use page::{Page, append};
 
 // Bytes enough for the text of any table, and for the longest no more than enough: `longest` of specs/Longest.antt.
 pub const LONGEST: usize = 10512;

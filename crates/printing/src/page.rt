@@ -1,4 +1,5 @@
 // A text in a lent buffer. What has no room is cut off.
+ghost use Rattle.printing.specs.Appended.{Appended};
 ghost use Rattle.printing.specs.Page.{Wrote};
 ghost use Rattle.printing.specs.Text.{decimal_of, with_number, line_with_number};
 
@@ -44,4 +45,13 @@ impl<'a> Page<'a> {
         self.append_with_number(word, number);
         self.append(b"\n");
     }
+}
+
+// Appends bytes to a buffer whose next place the caller keeps by itself, as an intake does its fill; answers where the next byte goes.
+pub fn append(out: &mut [u8], at: usize, bytes: &[u8]) -> usize
+    ensures { Appended out.old at bytes.now result out.new }
+{
+    let mut page = Page { out, at };
+    page.append(bytes);
+    page.at
 }

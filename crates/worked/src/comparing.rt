@@ -1,9 +1,9 @@
 // Do two calls say and leave the same?
 ghost use Rattle.std.specs.Prelude.{◌≡◌};
-ghost use Rattle.printing.specs.Appended.{Appended};
+ghost use Rattle.printing.specs.Page.{Wrote};
 ghost use Rattle.worked.specs.Compared.{same_outcome, unless_agreed};
 
-use printing::append;
+use printing::Page;
 use response::{Told, Verdict};
 
 // Is the verdict the same, and the words too?
@@ -14,12 +14,10 @@ pub fn same_outcome(verdict: Verdict, other: Verdict, answers: &[u32], others: &
 }
 
 // Appends a line more where two calls do not agree.
-pub fn append_unless(out: &mut [u8], at: usize, agreed: bool) -> usize
-    ensures { Appended out.old at (unless_agreed agreed) result out.new }
+pub fn append_unless(page: &mut Page, agreed: bool)
+    ensures { Wrote page.old (unless_agreed agreed) page.new }
 {
-    if agreed {
-        at
-    } else {
-        append(out, at, b"differs\n")
+    if !agreed {
+        page.append(b"differs\n");
     }
 }

@@ -8,7 +8,7 @@
 #![tactic(auto)]
 
 ghost use Rattle.std.specs.Prelude.{◌≡◌, length};
-ghost use Rattle.printing.specs.Appended.{Appended};
+ghost use Rattle.printing.specs.Page.{Wrote};
 ghost use Rattle.worked.specs.Stay.{stays, stay_line};
 
 mod comparing;
@@ -19,7 +19,7 @@ mod starts;
 
 use comparing::same_outcome;
 use model::Place;
-use printing::append;
+use printing::Page;
 use response::{Start, Verdict};
 use std::fs::File;
 use std::io::Result;
@@ -111,23 +111,26 @@ fn judge(
     let old = response::analyse_from(Start::OwnCost, table, old_answers, old_rounds);
     let heard = engine::play(table, played);
     let mut out = [0u8; ROOM];
-    let named = printing::line_with_number(&mut out, 0, b"table ", number);
-    let told = printing::text(&mut out, named, table, verdict, answers, rounds);
+    let mut page = Page {
+        out: &mut out,
+        at: 0,
+    };
+    page.line_with_number(b"table ", number);
+    page.text(table, verdict, answers, rounds);
     let first = first_to_stay(table, verdict);
-    let kept = append_stay(&mut out, told, stay(answers, first) && stay(rounds, first));
-    let heard_end = playing::append_played(
-        &mut out,
-        kept,
+    append_stay(&mut page, stay(answers, first) && stay(rounds, first));
+    playing::append_played(
+        &mut page,
         heard,
         playing::agree(verdict, heard, answers, played),
     );
-    let end = starts::append_own_cost(
-        &mut out,
-        heard_end,
+    starts::append_own_cost(
+        &mut page,
         old_rounds,
         first.0,
         same_outcome(verdict, old, answers, old_answers) && stay(old_rounds, first),
     );
+    let end = page.at;
     rt.write_all(&out[..end])
 }
 
@@ -147,12 +150,12 @@ pub fn stay(words: &[u32], first: Place) -> bool
 }
 
 // Appends the last line.
-fn append_stay(out: &mut [u8], at: usize, stayed: bool) -> usize
-    ensures { Appended out.old at (stay_line stayed) result out.new }
+fn append_stay(page: &mut Page, stayed: bool)
+    ensures { Wrote page.old (stay_line stayed) page.new }
 {
     if stayed {
-        append(out, at, b"stayed\n")
+        page.append(b"stayed\n");
     } else {
-        append(out, at, b"changed\n")
+        page.append(b"changed\n");
     }
 }

@@ -1,11 +1,11 @@
 // The engine's side of an entry: its verdict, and whether it agrees with the analysis.
 ghost use Rattle.std.specs.Prelude.{◌≡◌};
-ghost use Rattle.printing.specs.Appended.{Appended};
+ghost use Rattle.printing.specs.Page.{Wrote};
 ghost use Rattle.worked.specs.Played.{is_refused, agrees, played_text};
 
 use crate::comparing::{append_unless, same_outcome};
 use model::Place;
-use printing::append;
+use printing::Page;
 use response::Verdict;
 
 fn is_refused(verdict: Verdict) -> bool
@@ -29,10 +29,10 @@ pub fn agree(verdict: Verdict, heard: Verdict, answers: &[u32], played: &[u32]) 
 }
 
 // Appends the engine's line, and one more where it does not agree.
-pub fn append_played(out: &mut [u8], at: usize, heard: Verdict, agreed: bool) -> usize
-    ensures { Appended out.old at (played_text heard agreed) result out.new }
+pub fn append_played(page: &mut Page, heard: Verdict, agreed: bool)
+    ensures { Wrote page.old (played_text heard agreed) page.new }
 {
-    let named = append(out, at, b"engine ");
-    let told = printing::verdict_line(out, named, heard);
-    append_unless(out, told, agreed)
+    page.append(b"engine ");
+    page.verdict_line(heard);
+    append_unless(page, agreed);
 }

@@ -4,4 +4,4 @@ use Rattle.printing.proofs.PageLaws.{both}
 use Rattle.past_text.proofs.judged.Goals as goal
 
 pub returns : goal.returns
-returns c = both c.tasks.ensures c.line.ensures
+returns c = both c.tasks.ensures c.found_line.ensures
