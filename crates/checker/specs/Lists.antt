@@ -8,7 +8,7 @@ use Rattle.scanning.specs.declared.Scan.{Scan}
 use Rattle.scanning.specs.Pieces.{scan_after, kept_after, stuck, gone, all_through}
 use Rattle.checking.specs.Text.{check_text}
 use Rattle.checking.specs.Pieces.{words_kept, line_after}
-use Rattle.checker.specs.declared.Unread.{Unread}
+use Rattle.streams.specs.declared.Unread.{Unread}
 
 -- Scan and words are those behind some text, one that can be counted. (That it is the file's can't be said: the contract of the system's read says
 -- nothing of the bytes.)

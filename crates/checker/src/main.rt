@@ -11,26 +11,12 @@ ghost use Rattle.checker.specs.Lists.{Behind, list_read, Taken};
 use scanning::Scan;
 use std::env::{Env, FillError};
 use std::fs::File;
-use std::io::{self, Error, Read};
+use std::io::{self, Read};
 use std::ops::ControlFlow;
-use streams::{fail, read_full};
+use streams::{Unread, fail, read_full};
 
 // 2^63: a proved loop has to end, and the system counts the bytes of a file in 63 bits.
 const MOST_TEXT: usize = 9223372036854775808;
-
-// Why the list's text was not gone through.
-#[derive(Clone, Copy)]
-enum Unread {
-    // a read failed
-    Failed(Error),
-    TooLong,
-}
-
-impl From<Error> for Unread {
-    fn from(error: Error) -> Unread {
-        Unread::Failed(error)
-    }
-}
 
 fn main(rt: HostRuntime) -> io::Result<()> {
     let mut name = [0u8; 4096];

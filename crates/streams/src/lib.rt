@@ -1,14 +1,32 @@
-// What the programs do with a stream: they read from it, where a read that fails is the end, and say why something failed.
+// What the programs do with a stream: they read from it, where a read that fails is the end or a reason not to go on, and say why something
+// failed.
 #![tactic(auto)]
 
 ghost use Rattle.std.specs.Prelude.{◌≡◌, ◌≤◌, List, ℕ, length};
 ghost use Rattle.io.specs.Counts.{IsPrefixLen};
+ghost use Rattle.streams.specs.declared.Unread.TheVariants.{Failed};
 ghost use denote.Ref.{Bor, MutBor};
 
 use std::io::{Cursor, Error, Read, Result, Write};
 
 // Room for the system's words for an error and its number: the library keeps 256 bytes of words.
 const ROOM: usize = 300;
+
+// Why an input was not gone through.
+#[derive(Clone, Copy, Debug)]
+pub enum Unread {
+    // a read failed
+    Failed(Error),
+    TooLong,
+}
+
+impl From<Error> for Unread {
+    ghost from_gives = { λ error why. why ≡ Failed error };
+
+    fn from(error: Error) -> Unread {
+        Unread::Failed(error)
+    }
+}
 
 // Reads once, and answers how many bytes stand at the buffer's start: none at the end of the input, and none where the read fails.
 pub fn read_some<R: Read>(input: &mut R, buffer: &mut [u8]) -> usize

@@ -10,7 +10,7 @@ use Rattle.typed.specs.declared.Faulty.{Faulty}
 use Rattle.typed.specs.Answered.{text_for, is_faulty, end_in, says_faulty}
 use Rattle.typed.specs.Places.{place_for}
 use Rattle.texts.specs.Behind.{BehindText, AfterText}
-use Rattle.to_bytes.specs.declared.Unread.{Unread}
+use Rattle.streams.specs.declared.Unread.{Unread}
 
 -- Reader and slices are those behind some text. (That it is the one on standard input can't be said: the contract of the system's read says
 -- nothing of the bytes.)

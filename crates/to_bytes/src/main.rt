@@ -8,25 +8,11 @@ ghost use Rattle.texts.specs.Behind.{Empty};
 ghost use Rattle.to_bytes.specs.Texts.{Behind, After, Ended, text_read, AnswersText, AnswersPlace};
 
 use std::env::{Env, FillError};
-use std::io::{self, Error, Read};
-use streams::fail;
+use std::io::{self, Read};
+use streams::{Unread, fail};
 use texts::MOST_TEXT;
 use typed::Faulty;
 use typing::{Reader, State};
-
-// Why the text was not gone through.
-#[derive(Clone, Copy)]
-enum Unread {
-    // a read failed
-    Failed(Error),
-    TooLong,
-}
-
-impl From<Error> for Unread {
-    fn from(error: Error) -> Unread {
-        Unread::Failed(error)
-    }
-}
 
 fn main(rt: HostRuntime) -> io::Result<()> {
     let mut fields = [0u32; typing::FIELDS];
