@@ -10,7 +10,7 @@ use Rattle.model.specs.Tables.{Task, Row}
 use Rattle.tables.specs.declared.layout.Layout.{Layout}
 use Rattle.tables.specs.Layout.{Sound, layout_of, task_count, row_count, record_from, row_from, record_start, row_start, task_at, row_at}
 use Rattle.tables.specs.Checks.{head_check}
-use Rattle.tables.proofs.LayoutLaws.{record_inside, start_small}
+use Rattle.tables.proofs.LayoutLaws.{start_small}
 use Rattle.tables.proofs.CheckLaws.{head_right}
 use Rattle.records.specs.Reading.{HeadRead}
 use Rattle.records.specs.Columns.{Lent}
@@ -46,22 +46,26 @@ module _ (bytes : List ℕ) (layout : Layout) (clean : head_check bytes ≡ Ok t
   pub records_near : layout.size * task_count bytes ≤ 5355
   records_near = omega (arith, start_small layout layout_right {n = task_count bytes} (few_tasks_law bytes layout (task_count bytes) head))
 
-  module _ (i : ℕ) (inside : i < task_count bytes) where
-    pub record_near : layout.size * i ≤ 5355
-    record_near = omega (arith, records_near, record_inside layout inside)
+  -- a record has a size, and as many are there as are stated
+  pub some_bytes : 0 < layout.size
+  some_bytes = omega (arith, layout_right.fields)
 
-    pub record_fits : 5 + layout.size * i + layout.size ≤ length bytes
-    record_fits = omega (arith, record_inside layout inside, rows_end bytes layout (task_count bytes) head)
+  pub records_fit : 5 + layout.size * task_count bytes ≤ length bytes
+  records_fit = omega (arith, rows_end bytes layout (task_count bytes) head)
 
-    pub record_is : {t : Task} → t ≡ record_from layout bytes (5 + layout.size * i) → t ≡ task_at bytes i
-    record_is read = read ∙ ap (λ (l : Layout). record_from l bytes (record_start l i)) decided
+  module _ (n : ℕ) (counted : n ≡ task_count bytes) where
+    pub rows_fit : 5 + layout.size * n + 6 * row_count bytes ≤ length bytes
+    rows_fit = rw counted (omega (arith, rows_end bytes layout (task_count bytes) head))
 
-  module _ (n k : ℕ) (counted : n ≡ task_count bytes) (inside : k < row_count bytes) where
-    pub row_fits : 5 + layout.size * n + 6 * k + 6 ≤ length bytes
-    row_fits = rw counted (omega (arith, rows_end bytes layout (task_count bytes) head))
+    pub rows_begin : 5 + layout.size * n ≤ length bytes
+    rows_begin = omega (arith, rows_fit)
 
-    pub row_is : {r : Row} → r ≡ row_from bytes (5 + layout.size * n + 6 * k) → r ≡ row_at bytes k
-    row_is read =
-        read
-        ∙ ap (λ (l : Layout). row_from bytes (row_start l n k)) decided
-        ∙ ap (λ (t : ℕ). row_from bytes (row_start (layout_of bytes) t k)) counted
+  -- each is the table's
+  pub record_is : (i : ℕ) {t : Task} → t ≡ record_from layout bytes (5 + layout.size * i) → t ≡ task_at bytes i
+  record_is i read = read ∙ ap (λ (l : Layout). record_from l bytes (record_start l i)) decided
+
+  pub row_is : (n k : ℕ) → n ≡ task_count bytes → {r : Row} → r ≡ row_from bytes (5 + layout.size * n + 6 * k) → r ≡ row_at bytes k
+  row_is n k counted read =
+      read
+      ∙ ap (λ (l : Layout). row_from bytes (row_start l n k)) decided
+      ∙ ap (λ (t : ℕ). row_from bytes (row_start (layout_of bytes) t k)) counted

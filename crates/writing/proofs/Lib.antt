@@ -1,5 +1,6 @@
 pub mod DelayLaws
 pub mod HeadLaws
+pub mod ChunkLaws
 pub mod Forms
 pub mod LongestLaws
 pub mod LongTable

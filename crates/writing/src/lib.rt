@@ -66,17 +66,15 @@ fn form(page: &mut Page, table: &[u8])
 }
 
 // The tasks' lines.
-#[tactic(auto, using(crate::proofs::HeadLaws::head_long, crate::proofs::HeadLaws::record_near, crate::proofs::HeadLaws::record_fits))]
+#[tactic(auto, using(crate::proofs::HeadLaws::head_long))]
 fn tasks(page: &mut Page, table: &[u8])
     requires { head_check table.now ≡ Ok tt }
     ensures { Wrote page.old (joined task_line (tasks_of table.now)) page.new }
 {
     let layout = layout::of(table[VERSION_AT]);
-    for i in 0..usize::from(table[TASK_COUNT_AT]) {
-        task(
-            page,
-            records::read(table, layout, HEAD_SIZE + layout.size * i),
-        );
+    let n = usize::from(table[TASK_COUNT_AT]);
+    for record in table[HEAD_SIZE..].chunks_exact(layout.size).take(n) {
+        task(page, records::read(record, layout, 0));
     }
 }
 
@@ -114,15 +112,16 @@ fn delays(page: &mut Page, earliest: Ticks, latest: Ticks)
 }
 
 // The sections' lines.
-#[tactic(auto, using(crate::proofs::HeadLaws::head_long, crate::proofs::HeadLaws::records_near, crate::proofs::HeadLaws::row_fits))]
+#[tactic(auto, using(crate::proofs::HeadLaws::head_long, crate::proofs::HeadLaws::records_near, crate::proofs::HeadLaws::rows_begin))]
 fn sections(page: &mut Page, table: &[u8])
     requires { head_check table.now ≡ Ok tt }
     ensures { Wrote page.old (joined section_line (rows_of table.now)) page.new }
 {
     let layout = layout::of(table[VERSION_AT]);
     let first = HEAD_SIZE + layout.size * usize::from(table[TASK_COUNT_AT]);
-    for k in 0..usize::from(table[ROW_COUNT_AT]) {
-        section(page, rows::read(table, first + ROW_SIZE * k));
+    let m = usize::from(table[ROW_COUNT_AT]);
+    for row in table[first..].chunks_exact(ROW_SIZE).take(m) {
+        section(page, rows::read(row, 0));
     }
 }
 
