@@ -1,3 +1,4 @@
 pub mod StateLaws
 pub mod EventLaws
 pub mod NumberLaws
+pub mod CopyLaws

@@ -4,9 +4,9 @@
 #![tactic(auto)]
 
 ghost use Rattle.std.specs.Prelude.{◌≡◌};
+ghost use Rattle.printing.specs.Appended.{Appended};
 ghost use Rattle.intake.specs.Intake.{held, begun_fill, condition_for, fill_after, Takes, Answers, Ends};
 
-use printing::append;
 use response::{Verdict, analyse};
 use std::error::Error;
 use std::fmt;
@@ -51,6 +51,18 @@ pub fn take(store: &mut [u8], fill: &mut usize, piece: &[u8]) -> Result<(), Unus
     fitness(store.len(), *fill)?;
     *fill = append(&mut store[..MOST_KEPT], *fill, piece);
     Ok(())
+}
+
+// Appends the bytes at `at`, as far as there is room, and answers where the next byte goes. Byte by byte: a copy by the library would need
+// `memmove`, and who links this needs `memset` alone (include/ulmerascio.h).
+fn append(out: &mut [u8], at: usize, bytes: &[u8]) -> usize
+    ensures { Appended out.old at bytes.now result out.new }
+{
+    let count = bytes.len().min(out.len().saturating_sub(at));
+    for i in 0..count {
+        out[at + i] = bytes[i];
+    }
+    at + count
 }
 
 // The table has ended: answers for the bytes that came since the intake was fresh, which it then is again.
