@@ -1,7 +1,7 @@
 // The least common multiple of a table's periods (SPECIFICATION 13.12; document 02, L10).
 #![tactic(auto)]
 
-ghost use Rattle.std.specs.Prelude.{◌≡◌, [], ◌∷◌, ◌≤◌};
+ghost use Rattle.std.specs.Prelude.{◌≡◌, [], ◌∷◌, ◌≤◌, ltb};
 ghost use Rattle.tables.specs.Layout.{tasks_of};
 ghost use Rattle.tables.specs.Meaning.{TableRight};
 ghost use Rattle.multiples.specs.Divisors.{GreatestDivisor};
@@ -10,7 +10,7 @@ ghost use Rattle.multiples.specs.Multiples.{least_multiple, hyperperiod_of};
 use tables::fields::word;
 use tables::{HEAD_SIZE, PERIOD_AT, TASK_COUNT_AT, VERSION_AT};
 
-// The largest multiple that is printed: "above 10^12 print "over"", and 10^12 itself is a number.
+// The largest multiple that is printed.
 const LARGEST: u64 = 1000000000000;
 
 // "the common divisor found by Euclid's rule calling itself on the remainder".
@@ -38,6 +38,13 @@ fn joined(before: u64, period: u32) -> u64
     before / gcd(next, rest) * next
 }
 
+// "above 10^12 print "over"": 10^12 itself is a number. No table has just that, so a function of its own says it of every number.
+fn is_over(multiple: u64) -> bool
+    ensures { result ≡ ltb 1000000000000 multiple }
+{
+    LARGEST < multiple
+}
+
 // "the periods' least common multiple" of a table that was accepted; none where it is over. Once it is over it stays so: that of more
 // periods is no less.
 pub fn hyperperiod(table: &[u8]) -> Option<u64>
@@ -49,7 +56,7 @@ pub fn hyperperiod(table: &[u8]) -> Option<u64>
     let mut common = 1;
     for record in table[HEAD_SIZE..].chunks_exact(layout.size).take(n) {
         common = joined(common, word(record, PERIOD_AT));
-        if LARGEST < common {
+        if is_over(common) {
             return None;
         }
     }

@@ -1,6 +1,7 @@
 -- `multiples::hyperperiod` meets its contract: each turn joins the period of one task more.
 -- Assumes nothing.
-use Rattle.std.proofs.Common.{rules, arith}
+use Rattle.std.proofs.Common.{rules, sym, ◌∙◌, arith}
+use borrow.Author.Tests.{ltb-true, ltb-false}
 use Rattle.std.proofs.lemmas.List.{length_push}
 use Rattle.tables.proofs.WalkLaws.{turn, some_bytes, walking_first, found_long, period_is, period_within}
 use Rattle.multiples.proofs.JoinLaws.{joining_first, joining_all, joining_over, joining_more}
@@ -27,15 +28,17 @@ joined-common-requires-clause-le_period c =
     let t = turn c.in-Some.ensures.steps in
     omega (arith, period_is c.loop-record.invariant.2.walk t c.word.ensures, period_within c.loop-record.invariant.2.walk t)
 
-pub returns-then-common-gt-LARGEST : goal.returns-then-common-gt-LARGEST
-returns-then-common-gt-LARGEST c =
-    joining_over c.loop-record.invariant.2 (turn c.in-Some.ensures.steps) c.word.ensures c.joined-common.ensures (omega arith)
+pub returns-then-is_over : goal.returns-then-is_over
+returns-then-is_over c =
+    joining_over c.loop-record.invariant.2 (turn c.in-Some.ensures.steps) c.word.ensures c.joined-common.ensures
+    (ltb-true _ _ (sym c.is_over.ensures ∙ c.if-is_over.true))
 
 pub loop-record-preserved : goal.loop-record-preserved
 loop-record-preserved c = (
   search rules,
   tt,
-  joining_more c.loop-record.invariant.2 (turn c.in-Some.ensures.steps) c.word.ensures c.joined-common.ensures (length_push _ _) (omega arith),
+  joining_more c.loop-record.invariant.2 (turn c.in-Some.ensures.steps) c.word.ensures c.joined-common.ensures (length_push _ _)
+      (ltb-false _ _ (sym c.is_over.ensures ∙ c.if-is_over.false)),
 )
 
 pub returns : goal.returns
