@@ -1,6 +1,6 @@
 -- Where a text leads: from what stands before it to what stands behind it.
 -- Assumes nothing.
-use Prim.Native.Nat.{ℕ, zero, suc, ◌+◌, ◌-◌, ◌*◌, ◌/◌, ◌%◌, ◌^◌, ◌≤◌, ◌<◌}
+use Prim.Native.Nat.{ℕ, zero, suc, ◌+◌, ◌*◌, ◌/◌, ◌%◌, ◌^◌, ◌≤◌, ◌<◌}
 use native.Mathlib.Nat.{pow-suc, div-add-mod', mod-lt, zero-lt-suc}
 use native.Mathlib.Omega.{arith}
 use mathlib.Core.Path.{◌≡◌, refl, sym, ◌∙◌, ap}
@@ -16,10 +16,8 @@ use Rattle.scanning.specs.Reading.{is_digit}
 use Rattle.scanning.proofs.ByteLaws.{digit_range}
 use Rattle.scanning.proofs.BackLaws.{glyph_is, glyph_digit, digits_of}
 use Rattle.words.specs.declared.Spot.{Spot}
-use Rattle.words.specs.declared.Amount.{Amount}
-use Rattle.words.specs.declared.Amount.TheVariants.{Whole}
-use Rattle.words.specs.Words.{is_blank, is_end, spelled_after, spelled_from, spelling_of, Event, word, line_end}
-use Rattle.words.specs.Steps.{whole_for, counted_after, begun, grown_by, settled_by, ends_word, went_by, heard_by, heard_in, spot_after}
+use Rattle.words.specs.Words.{is_blank, is_end, spelled_after, spelled_from, spelling_of, amount_after, Event, word, line_end}
+use Rattle.words.specs.Steps.{begun, grown_by, settled_by, ends_word, went_by, heard_by, heard_in, spot_after}
 use Rattle.words.proofs.HeardLaws.{spelled_more, words_heard}
 use Rattle.typing.specs.Reading.{Draft, draft_by, draft_after}
 
@@ -56,12 +54,12 @@ pub leads_to : {spot last : Spot} {draft behind : Draft} {text : List ℕ} (othe
 leads_to other a e = record { drafted = a.drafted ∙ e; left = a.left }
 
 -- in a word so spelled and of that amount
-abbrev in_word_of : ℕ → Amount → Spot
+abbrev in_word_of : ℕ → ℕ → Spot
 in_word_of spelling amount = record { returned = false; commented = false; spelling = spelling; amount = amount }
 
 -- a digit is one letter more
-digit_leads : (draft : Draft) (spelling : ℕ) (amount : Amount) (byte : ℕ) → is_digit byte ≡ true →
-    Leads (in_word_of spelling amount) draft (byte ∷ []) (in_word_of (spelled_after spelling byte) (counted_after amount byte)) draft
+digit_leads : (draft : Draft) (spelling amount byte : ℕ) → is_digit byte ≡ true →
+    Leads (in_word_of spelling amount) draft (byte ∷ []) (in_word_of (spelled_after spelling byte) (amount_after amount byte)) draft
 unfolding draft_after heard_in spot_after heard_by settled_by ends_word went_by grown_by is_end is_blank
 digit_leads draft spelling amount byte p =
     let range = digit_range byte p in
@@ -75,32 +73,32 @@ digit_leads draft spelling amount byte p =
       left = rw (feed, return, hash, blank, tab);
     }
 
-amount_digit : (number : ℕ) → number ≤ 4294967295 → counted_after (Whole (number / 10)) (hex_digit_ascii (number % 10)) ≡ Whole number
-unfolding whole_for
+amount_digit : (number : ℕ) → number ≤ 4294967295 → amount_after (number / 10) (hex_digit_ascii (number % 10)) ≡ number
+unfolding amount_after
 amount_digit number h =
     let small : number % 10 < 10 = mod-lt number (zero-lt-suc 9) in
     let whole = div-add-mod' number 10 in
-    let all : 10 * (number / 10) + (hex_digit_ascii (number % 10) - 48) ≡ number = omega (arith, glyph_is (number % 10) small, whole) in
-    rw (glyph_digit number, all, lt-ltb number 4294967296 (omega (arith, h)))
+    rw (glyph_digit number, lt-ltb (number / 10) 4294967296 (omega (arith, whole)))
+    (omega (arith, glyph_is (number % 10) small, whole))
 
 digits_lead : (draft : Draft) (k number : ℕ) → number < 10 ^ k → number ≤ 4294967295 →
-    Leads begun draft (last_digits 10 k number) (in_word_of (spelling_of (last_digits 10 k number)) (Whole number)) draft
+    Leads begun draft (last_digits 10 k number) (in_word_of (spelling_of (last_digits 10 k number)) number) draft
 unfolding draft_after heard_in spot_after spelled_from
 digits_lead draft zero number small fits =
     let one : 10 ^ 0 ≡ 1 = refl in
     let none : number ≡ 0 = omega (arith, one) in
-    record { drafted = refl; left = ap (λ (n : ℕ). in_word_of 1 (Whole n)) (sym none) }
+    record { drafted = refl; left = ap (in_word_of 1) (sym none) }
 digits_lead draft (suc k) number small fits =
     let front = last_digits 10 k (number / 10) in
     let last = hex_digit_ascii (number % 10) in
     let a = leads_on (digits_lead draft k (number / 10) (omega (arith, div-add-mod' number 10, pow-suc 10 k)) (omega (arith, div-add-mod' number 10)))
-    (digit_leads draft (spelling_of front) (Whole (number / 10)) last (glyph_digit number)) in
+    (digit_leads draft (spelling_of front) (number / 10) last (glyph_digit number)) in
     record {
       drafted = a.drafted;
       left =
           a.left
-          ∙ ap (λ (amount : Amount). in_word_of (spelled_after (spelling_of front) last) amount) (amount_digit number fits)
-          ∙ ap (λ (spelling : ℕ). in_word_of spelling (Whole number)) (sym (spelled_more 1 front last));
+          ∙ ap (λ (amount : ℕ). in_word_of (spelled_after (spelling_of front) last) amount) (amount_digit number fits)
+          ∙ ap (λ (spelling : ℕ). in_word_of spelling number) (sym (spelled_more 1 front last));
     }
 
 -- in a number
@@ -108,7 +106,7 @@ abbrev pub number_word : ℕ → Event
 number_word number = word (spelling_of (decimal_of number)) number
 
 abbrev pub in_number : ℕ → Spot
-in_number number = in_word_of (spelling_of (decimal_of number)) (Whole number)
+in_number number = in_word_of (spelling_of (decimal_of number)) number
 
 pub number_leads : {draft : Draft} (number : ℕ) → number ≤ 4294967295 → Leads begun draft (decimal_of number) (in_number number) draft
 number_leads {draft} number fits =

@@ -12,7 +12,7 @@ use borrow.Author.Tests.{ne_eqb, lt-leb, le-leb, le-ltb}
 use Rattle.model.specs.Tables.{Task, Row}
 use Rattle.model.proofs.Tests.{eqb?}
 use Rattle.printing.specs.Text.{bytes_of, line_with_number}
-use Rattle.words.specs.Words.{is_blank, is_end, spelled_after, spelled_from, spelling_of, not_whole, line_feed, word, line_end}
+use Rattle.words.specs.Words.{is_blank, is_end, spelled_after, spelled_from, spelling_of, not_whole, line_feed, amount_after, word, line_end}
 use Rattle.words.specs.Steps.{begun, grown_by, settled_by, ends_word, went_by, heard_by, heard_in, spot_after}
 use Rattle.scanning.specs.Reading.{is_digit}
 use Rattle.typing.specs.declared.lines.Kind.{Kind}
@@ -130,7 +130,7 @@ record Keywords (draft : Draft) : Type 0 where
   section : Leads begun draft (bytes_of "section ") begun (keyword draft (bytes_of "section"))
 
 keywords : (draft : Draft) → Keywords draft
-unfolding draft_after heard_in spot_after heard_by settled_by ends_word went_by grown_by is_end is_blank spelled_after spelled_from is_digit
+unfolding draft_after heard_in spot_after heard_by settled_by ends_word went_by grown_by is_end is_blank spelled_after spelled_from amount_after is_digit
 keywords draft =
     record {
       version = record { drafted = refl; left = refl };

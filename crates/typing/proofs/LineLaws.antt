@@ -16,6 +16,13 @@ use Rattle.typing.specs.declared.lines.Line.{Line}
 use Rattle.typing.specs.declared.lines.Line.TheVariants.{Blank, Filling, Wrong}
 use Rattle.typing.specs.Lines.{needed_for, byte_below, limit_for, field_for, is_taken, fields_after}
 
+pub needed_few : (kind : Kind) → needed_for kind ≤ 6
+needed_few VersionLine = omega arith
+needed_few TaskLine = omega arith
+needed_few JitterLine = omega arith
+needed_few DelaysLine = omega arith
+needed_few SectionLine = omega arith
+
 below_small : (first at : ℕ) → byte_below first at ≤ 4294967295
 below_small first at = elim (bool? (ltb at first)) [ inl p ↦ rw p (omega arith) | inr p ↦ rw p (omega arith) ]
 
@@ -27,7 +34,7 @@ limit_small DelaysLine at = below_small 1 at
 limit_small SectionLine at = below_small 2 at
 
 -- a number that a line takes
-taken_small : (kind : Kind) (count amount : ℕ) → is_taken kind count amount ≡ true → amount ≤ 4294967295
+pub taken_small : (kind : Kind) (count amount : ℕ) → is_taken kind count amount ≡ true → amount ≤ 4294967295
 unfolding is_taken
 taken_small kind count amount p =
     let tests = both_true (ltb count (needed_for kind)) (leb amount (limit_for kind count)) p in

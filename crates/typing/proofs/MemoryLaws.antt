@@ -14,7 +14,7 @@ use Rattle.model.specs.Choice.{pick}
 use Rattle.model.proofs.Tests.{bool?}
 use Rattle.words.specs.declared.Spot.{Spot}
 use Rattle.words.specs.Words.{Event, word, line_end}
-use Rattle.words.specs.Steps.{number_of, begun, settled_by, ends_word, word_by, line_by, heard_by, spot_by, heard_in, spot_after}
+use Rattle.words.specs.Steps.{begun, settled_by, ends_word, word_by, line_by, heard_by, spot_by, heard_in, spot_after}
 use Rattle.words.proofs.HeardLaws.{words_heard}
 use Rattle.typing.specs.declared.lines.Kind.{Kind}
 use Rattle.typing.specs.declared.lines.Kind.TheVariants.{VersionLine, TaskLine, JitterLine, DelaysLine, SectionLine}
@@ -62,15 +62,15 @@ word_taken false state fields numbers places spelling amount p q = memory_same p
 
 pub byte_taken : (spot : Spot) (byte : ℕ) (state : State) (fields numbers places : List ℕ) {settled : Spot} {heard result : State} {more others spaces : List ℕ} →
     settled ≡ settled_by spot byte →
-    heard ≡ pick (ends_word settled byte) (state_heard state settled.spelling (number_of settled.amount)) state →
-    more ≡ pick (ends_word settled byte) (fields_after state.line (number_of settled.amount) fields) fields →
+    heard ≡ pick (ends_word settled byte) (state_heard state settled.spelling settled.amount) state →
+    more ≡ pick (ends_word settled byte) (fields_after state.line settled.amount fields) fields →
     memory result more others spaces ≡ memory_after (memory heard more numbers places) (line_by byte) →
     memory result more others spaces ≡ memory_after (memory state fields numbers places) (heard_by spot byte)
 unfolding heard_by
 byte_taken spot byte state fields numbers places {settled} e p q r =
     r
     ∙ ap (λ (kept : Memory). memory_after kept (line_by byte))
-    (word_taken (ends_word settled byte) state fields numbers places settled.spelling (number_of settled.amount) p q)
+    (word_taken (ends_word settled byte) state fields numbers places settled.spelling settled.amount p q)
     ∙ sym (memory_append (memory state fields numbers places) (word_by settled byte) (line_by byte))
     ∙ ap (λ (at : Spot). memory_after (memory state fields numbers places) (word_by at byte ++ line_by byte)) e
 
@@ -129,7 +129,7 @@ unfolding heard_by
 bounded_byte kept spot byte more b =
     rw (memory_append kept (word_by (settled_by spot byte) byte) (line_by byte))
     (bounded_line (memory_after kept (word_by (settled_by spot byte) byte)) byte more
-    (bounded_word kept (ends_word (settled_by spot byte) byte) (settled_by spot byte).spelling (number_of (settled_by spot byte).amount) (suc more) b))
+    (bounded_word kept (ends_word (settled_by spot byte) byte) (settled_by spot byte).spelling (settled_by spot byte).amount (suc more) b))
 
 -- the slices keep their lengths
 numbers_long : (line : Line) (counts : Counts) (fields numbers : List ℕ) → length (numbers_at_end line counts fields numbers) ≡ length numbers
@@ -235,8 +235,8 @@ module _ {reader : Reader} {piece fields numbers places : List ℕ} {i : ℕ} {n
 
 -- what `take_end` asks for, whether a word ended or not
 pub word_bounded : (settled : Spot) (byte : ℕ) (state : State) {heard : State} → Bounded state 1 →
-    heard ≡ pick (ends_word settled byte) (state_heard state settled.spelling (number_of settled.amount)) state → Bounded heard 1
-word_bounded settled byte state b p = bounded_heard (ends_word settled byte) state settled.spelling (number_of settled.amount) 1 b p
+    heard ≡ pick (ends_word settled byte) (state_heard state settled.spelling settled.amount) state → Bounded heard 1
+word_bounded settled byte state b p = bounded_heard (ends_word settled byte) state settled.spelling settled.amount 1 b p
 
 fields_picked : (ends : Bool) (line : Line) (amount : ℕ) (fields : List ℕ) → length fields ≡ 6 →
     length (pick ends (fields_after line amount fields) fields) ≡ 6
@@ -244,8 +244,8 @@ fields_picked true line amount fields h = fields_long line amount fields h
 fields_picked false line amount fields h = h
 
 pub word_fields : (settled : Spot) (byte : ℕ) (line : Line) (fields : List ℕ) {more : List ℕ} → length fields ≡ 6 →
-    more ≡ pick (ends_word settled byte) (fields_after line (number_of settled.amount) fields) fields → length more ≡ 6
-word_fields settled byte line fields h p = ap length p ∙ fields_picked (ends_word settled byte) line (number_of settled.amount) fields h
+    more ≡ pick (ends_word settled byte) (fields_after line settled.amount fields) fields → length more ≡ 6
+word_fields settled byte line fields h p = ap length p ∙ fields_picked (ends_word settled byte) line settled.amount fields h
 
 -- and behind any bytes
 pub bounded_piece : (kept : Memory) (spot : Spot) (piece : List ℕ) (more : ℕ) → Bounded kept.state (length piece + more) →

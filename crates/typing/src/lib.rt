@@ -5,7 +5,7 @@
 ghost use Rattle.std.specs.Prelude.{◌+◌, ◌<◌, ◌≡◌, length, set};
 ghost use Rattle.std.proofs.lemmas.List.Edits.{sets};
 ghost use Rattle.model.specs.Choice.{pick};
-ghost use Rattle.words.specs.Steps.{number_of, ends_word, line_by, spot_by, heard_by, spot_after, heard_in};
+ghost use Rattle.words.specs.Steps.{ends_word, line_by, spot_by, heard_by, spot_after, heard_in};
 ghost use Rattle.typing.specs.Lines.{is_taken, field_for, fields_after};
 ghost use Rattle.typing.specs.Reading.{state_heard, counts_with, counts_at_end, number_at_end, state_ended};
 ghost use Rattle.typing.specs.Steps.{start, Few, Bounded, numbers_at_end, places_at_end, memory, memory_after};
@@ -84,8 +84,8 @@ pub fn take_byte(
 // Takes the word that the byte ends, if it ends one.
 fn take_word(state: State, spot: Spot, byte: u8, fields: &mut [u32]) -> State
     requires { length fields.old ≡ 6 }
-    ensures value { result ≡ pick (ends_word spot byte) (state_heard state spot.spelling (number_of spot.amount)) state }
-    ensures fields_after { fields.new ≡ pick (ends_word spot byte) (fields_after state.line (number_of spot.amount) fields.old) fields.old }
+    ensures value { result ≡ pick (ends_word spot byte) (state_heard state spot.spelling spot.amount) state }
+    ensures fields_after { fields.new ≡ pick (ends_word spot byte) (fields_after state.line spot.amount fields.old) fields.old }
 {
     if !words::ends_word(spot, byte) {
         return state;
@@ -96,8 +96,8 @@ fn take_word(state: State, spot: Spot, byte: u8, fields: &mut [u32]) -> State
 
 // The line with one word more.
 #[tactic(auto, using(std::proofs::lemmas::Bool::Decides::nat_tests), unfolding(crate::specs::Reading::state_heard))]
-fn hear(state: State, spelling: u64, amount: Amount) -> State
-    ensures { result ≡ state_heard state spelling (number_of amount) }
+fn hear(state: State, spelling: u64, amount: u64) -> State
+    ensures { result ≡ state_heard state spelling amount }
 {
     State {
         line: lines::after_word(state.counts, state.line, spelling, amount),
@@ -107,9 +107,9 @@ fn hear(state: State, spelling: u64, amount: Amount) -> State
 
 // The first word of a line empties the fields, and each number goes to its own.
 #[tactic(auto, using(std::proofs::lemmas::Bool::Decides::nat_tests), unfolding(crate::specs::Lines::fields_after))]
-fn keep_word(line: Line, amount: Amount, fields: &mut [u32])
+fn keep_word(line: Line, amount: u64, fields: &mut [u32])
     requires { length fields.old ≡ 6 }
-    ensures { fields.new ≡ fields_after line (number_of amount) fields.old }
+    ensures { fields.new ≡ fields_after line amount fields.old }
 {
     match line {
         Line::Blank => fields.fill(0),
@@ -118,12 +118,12 @@ fn keep_word(line: Line, amount: Amount, fields: &mut [u32])
     }
 }
 
-#[tactic(auto, using(std::proofs::lemmas::Bool::Decides::nat_tests, crate::proofs::LineLaws::large_not_taken), unfolding(crate::specs::Lines::is_taken))]
-fn keep_number(kind: Kind, count: usize, amount: Amount, fields: &mut [u32])
-    ensures { fields.new ≡ pick (is_taken kind count (number_of amount)) (set fields.old (field_for kind count) (number_of amount)) fields.old }
+#[tactic(auto, using(std::proofs::lemmas::Bool::Decides::nat_tests, crate::proofs::LineLaws::large_not_taken), unfolding(crate::specs::Lines::is_taken, words::specs::Steps::amount_for, words::specs::Steps::whole_for))]
+fn keep_number(kind: Kind, count: usize, amount: u64, fields: &mut [u32])
+    ensures { fields.new ≡ pick (is_taken kind count amount) (set fields.old (field_for kind count) amount) fields.old }
 {
-    match amount {
-        Amount::Whole(number) if kind.is_taken(count, number) => {
+    match Amount::from(amount) {
+        Amount::Whole(number) if kind.is_taken(count, amount) => {
             put(fields, kind.field(count), number)
         }
         _ => {}

@@ -1,6 +1,5 @@
 // One line of a text, word by word (SPECIFICATION 14.2): what it is, how many of its numbers are there, and the first that is wrong in it.
 ghost use Rattle.std.specs.Prelude.{◌+◌, ◌≡◌, ◌≤◌, ◌<◌};
-ghost use Rattle.words.specs.Steps.{number_of};
 ghost use Rattle.typing.specs.Lines.{needed_for, byte_below, limit_for, field_for, task_begun, section_begun, version_begun, begun_by, number_line, delays_behind, behind_of, went_on, line_after, is_taken, ended_line, is_whole};
 ghost use Rattle.typing.specs.Steps.{Few, slot_for, size_for, place_slot};
 
@@ -78,8 +77,8 @@ pub struct Counts {
 
 impl Kind {
     // How many numbers a whole line has.
-    fn needed(self) -> usize
-        ensures { result ≡ needed_for self }
+    pub(crate) fn needed(self) -> usize
+        ensures { (result ≡ needed_for self) × (result ≤ 6) }
     {
         match self {
             Kind::VersionLine => 1,
@@ -113,10 +112,10 @@ impl Kind {
 
     // Is it a number that the field at this place of the line holds?
     #[tactic(auto, using(std::proofs::lemmas::Bool::Decides::nat_tests), unfolding(crate::specs::Lines::is_taken))]
-    pub(crate) fn is_taken(self, count: usize, number: u32) -> bool
-        ensures { result ≡ is_taken self count number }
+    pub(crate) fn is_taken(self, count: usize, amount: u64) -> bool
+        ensures { result ≡ is_taken self count amount }
     {
-        count < self.needed() && number <= self.limit(count)
+        count < self.needed() && amount <= u64::from(self.limit(count))
     }
 
     // Are all of its numbers there?
@@ -173,8 +172,8 @@ fn byte_below(first: usize, at: usize) -> u32
 
 // The line behind one word more.
 #[tactic(auto, using(std::proofs::lemmas::Bool::Decides::nat_tests), unfolding(crate::specs::Lines::line_after))]
-pub fn after_word(counts: Counts, line: Line, spelling: u64, amount: Amount) -> Line
-    ensures { result ≡ line_after counts line spelling (number_of amount) }
+pub fn after_word(counts: Counts, line: Line, spelling: u64, amount: u64) -> Line
+    ensures { result ≡ line_after counts line spelling amount }
 {
     match line {
         Line::Blank => begin(counts, spelling),
@@ -230,25 +229,25 @@ fn begin_version(counts: Counts) -> Line
 }
 
 // A number, as long as numbers are missing; behind them a task may have one word more.
-#[tactic(auto, using(std::proofs::lemmas::Bool::Decides::nat_tests), unfolding(crate::specs::Lines::went_on))]
-fn go_on(old: bool, kind: Kind, count: usize, spelling: u64, amount: Amount) -> Line
-    ensures { result ≡ went_on old kind count spelling (number_of amount) }
+#[tactic(auto, using(std::proofs::lemmas::Bool::Decides::nat_tests), unfolding(crate::specs::Lines::went_on, words::specs::Steps::amount_for, words::specs::Steps::whole_for))]
+fn go_on(old: bool, kind: Kind, count: usize, spelling: u64, amount: u64) -> Line
+    ensures { result ≡ went_on old kind count spelling amount }
 {
     if count < kind.needed() {
         return take_number(kind, count, amount);
     }
-    match amount {
+    match Amount::from(amount) {
         Amount::NotWhole => take_behind(old, kind, spelling),
         _ => Line::Wrong(Fault::TooMany),
     }
 }
 
-#[tactic(auto, using(std::proofs::lemmas::Bool::Decides::nat_tests, crate::proofs::LineLaws::limit_small), unfolding(crate::specs::Lines::number_line))]
-fn take_number(kind: Kind, count: usize, amount: Amount) -> Line
+#[tactic(auto, using(std::proofs::lemmas::Bool::Decides::nat_tests, crate::proofs::LineLaws::limit_small), unfolding(crate::specs::Lines::number_line, words::specs::Steps::amount_for, words::specs::Steps::whole_for))]
+fn take_number(kind: Kind, count: usize, amount: u64) -> Line
     requires { count < needed_for kind }
-    ensures { result ≡ number_line kind count (number_of amount) }
+    ensures { result ≡ number_line kind count amount }
 {
-    match amount {
+    match Amount::from(amount) {
         Amount::Whole(number) if number <= kind.limit(count) => Line::Filling(kind, count + 1),
         Amount::NotWhole => Line::Wrong(Fault::NotWhole),
         _ => Line::Wrong(Fault::TooLarge),

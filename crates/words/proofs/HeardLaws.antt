@@ -1,22 +1,20 @@
 -- What is heard byte by byte are the words and line ends of the text.
 -- Assumes nothing.
-use Prim.Native.Nat.{ℕ, ◌+◌, ◌-◌, ◌*◌, ◌<◌, ◌≤◌, min}
+use Prim.Native.Nat.{ℕ, ◌+◌, ◌-◌, ◌*◌, ◌<◌, min}
 use native.Mathlib.Omega.{arith}
 use mathlib.Core.Path.{◌≡◌, refl, sym, ◌∙◌, ap}
 use mathlib.Core.Bool.{Bool, true, false}
 use mathlib.Core.Logic.{inl, inr}
 use mathlib.Core.List.{List, [], ◌∷◌, ◌++◌, append_assoc}
 use lib.Dec.{eqb, ltb}
-use borrow.Author.Tests.{ne_eqb, lt-ltb, le-ltb}
+use borrow.Author.Tests.{ne_eqb}
 use Rattle.model.specs.Choice.{pick, both}
 use Rattle.model.proofs.Tests.{bool?, eqb?, ltb?}
 use Rattle.scanning.specs.Reading.{is_digit}
 use Rattle.scanning.specs.Faults.{digits_only, with_digits}
 use Rattle.words.specs.declared.Spot.{Spot}
-use Rattle.words.specs.declared.Amount.{Amount}
-use Rattle.words.specs.declared.Amount.TheVariants.{Whole, TooLarge, NotWhole}
-use Rattle.words.specs.Words.{is_blank, is_end, begins_with_feed, unreturned, spelled_after, spelled_from, spelling_of, too_large, not_whole, amount_of, amount_after, Event, line_end, ended, in_word, in_comment, events_of}
-use Rattle.words.specs.Steps.{number_of, whole_for, counted_after, begun, grown_by, settled_by, ends_word, went_by, word_by, heard_by, spot_by, heard_in, spot_after}
+use Rattle.words.specs.Words.{is_blank, is_end, begins_with_feed, unreturned, spelled_after, spelled_from, spelling_of, too_large, amount_of, amount_after, Event, line_end, ended, in_word, in_comment, events_of}
+use Rattle.words.specs.Steps.{begun, grown_by, settled_by, ends_word, went_by, word_by, heard_by, spot_by, heard_in, spot_after}
 use Rattle.words.specs.Heard.{WordsHeard}
 
 -- one letter more
@@ -62,78 +60,6 @@ amount_more letters letter =
       | inr p ↦ elim (bool? (is_digit letter)) [ inl q ↦ rw (digits_more letters letter, p, q) | inr q ↦ rw (digits_more letters letter, p, q) ]
     ]
 
--- the amount that a number stands for
-unfoldable counted : ℕ → Amount
-counted number = pick (ltb number not_whole) (whole_for number) NotWhole
-
-counted_whole : (number : ℕ) → number < too_large → counted number ≡ Whole number
-unfolding counted whole_for
-counted_whole number h = rw (lt-ltb number 4294967297 (omega arith), lt-ltb number 4294967296 h)
-
-counted_not : (number : ℕ) → not_whole ≤ number → counted number ≡ NotWhole
-unfolding counted
-counted_not number h = rw (le-ltb number 4294967297 h)
-
--- a letter that is no digit
-letter_counts_not : (amount : Amount) (letter : ℕ) → is_digit letter ≡ false → counted_after amount letter ≡ NotWhole
-letter_counts_not (Whole number) letter p = rw p
-letter_counts_not TooLarge letter p = rw p
-letter_counts_not NotWhole letter p = refl
-
-counted_large : TooLarge ≡ counted too_large
-unfolding counted whole_for
-counted_large = refl
-
--- one digit more
-digit_counts : (value : ℕ) → whole_for value ≡ counted (min value too_large)
-unfolding whole_for
-digit_counts value =
-    elim (ltb? value too_large) [
-      | inl p ↦
-          let same : min value too_large ≡ value = omega (arith, p.1) in
-          rw (same, counted_whole value p.1, p.0)
-      | inr p ↦
-          let most : min value too_large ≡ too_large = omega (arith, p.1) in
-          rw (most, p.0) counted_large
-    ]
-
-large_stays : (number letter : ℕ) → too_large ≤ number → is_digit letter ≡ true → counted_after (counted number) letter ≡ counted number
-unfolding counted whole_for
-large_stays number letter h p =
-    elim (ltb? number not_whole) [
-      | inl q ↦ rw (q.0, le-ltb number 4294967296 h, p)
-      | inr q ↦ rw q.0
-    ]
-
-counted_more : (number letter : ℕ) → counted_after (counted number) letter ≡ counted (amount_after number letter)
-unfolding amount_after
-counted_more number letter =
-    elim (bool? (is_digit letter)) [
-      | inl p ↦
-          elim (ltb? number too_large) [
-            | inl q ↦ rw (counted_whole number q.1, p, q.0) (digit_counts (10 * number + (letter - 48)))
-            | inr q ↦ rw (p, q.0) (large_stays number letter q.1 p)
-          ]
-      | inr p ↦ rw p (letter_counts_not (counted number) letter p ∙ sym (counted_not not_whole (omega arith)))
-    ]
-
-number_counted : (number : ℕ) → number ≤ not_whole → number_of (counted number) ≡ number
-unfolding counted whole_for
-number_counted number h =
-    elim (ltb? number not_whole) [
-      | inl p ↦
-          elim (ltb? number too_large) [
-            | inl q ↦ rw (p.0, q.0)
-            | inr q ↦ rw (p.0, q.0) (omega (arith, p.1, q.1))
-          ]
-      | inr p ↦ rw p.0 (omega (arith, h, p.1))
-    ]
-
-amount_most : (letters : List ℕ) → amount_of letters ≤ not_whole
-unfolding amount_of
-amount_most letters =
-    elim (bool? (digits_only letters)) [ inl p ↦ rw p (omega arith) | inr p ↦ rw p (omega arith) ]
-
 -- a word of some letters is not spelled as one of none
 spelled_above : (spelling : ℕ) (letters : List ℕ) → 1 < spelling → 1 < spelled_from spelling letters
 unfolding spelled_from spelled_after
@@ -152,26 +78,25 @@ spelled_some letter letters =
 
 -- what stands before a byte, by the letters of the word so far
 abbrev at_word : Bool → List ℕ → Spot
-at_word returned letters = record { returned = returned; commented = false; spelling = spelling_of letters; amount = counted (amount_of letters) }
+at_word returned letters = record { returned = returned; commented = false; spelling = spelling_of letters; amount = amount_of letters }
 
 abbrev at_comment : Bool → Spot
-at_comment returned = record { returned = returned; commented = true; spelling = 1; amount = Whole 0 }
+at_comment returned = record { returned = returned; commented = true; spelling = 1; amount = 0 }
 
 at_begin : begun ≡ at_word false []
-unfolding spelled_from amount_of digits_only with_digits counted whole_for
+unfolding spelled_from amount_of digits_only with_digits
 at_begin = refl
 
 at_longer : (returned : Bool) (letters : List ℕ) (letter : ℕ) → grown_by (at_word returned letters) letter ≡ at_word false (letters ++ (letter ∷ []))
 unfolding grown_by
-at_longer returned letters letter = rw (spelled_more 1 letters letter, amount_more letters letter, ← counted_more (amount_of letters) letter)
+at_longer returned letters letter = rw (spelled_more 1 letters letter, amount_more letters letter)
 
 -- the word that a byte ends
 word_ended : (returned : Bool) (letters : List ℕ) (byte : ℕ) (events : List Event) → is_end byte ≡ true →
     word_by (at_word returned letters) byte ++ events ≡ ended letters events
 unfolding ends_word ended spelled_from
 word_ended returned [] byte events p = refl
-word_ended returned (letter ∷ letters) byte events p =
-    rw (p, spelled_some letter letters, number_counted (amount_of (letter ∷ letters)) (amount_most (letter ∷ letters)))
+word_ended returned (letter ∷ letters) byte events p = rw (p, spelled_some letter letters)
 
 word_goes_on : (returned : Bool) (letters : List ℕ) (byte : ℕ) → is_end byte ≡ false → word_by (at_word returned letters) byte ≡ []
 unfolding ends_word

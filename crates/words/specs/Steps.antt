@@ -1,34 +1,25 @@
 -- How the code goes through a text: what stands before each byte, and what the byte does to it. That these are the words of
 -- specs/Words.antt is `WordsHeard` of specs/Heard.antt.
 -- Assumes nothing.
-use Rattle.std.specs.Prelude.{ℕ, ◌+◌, ◌-◌, ◌*◌, Bool, true, false, not, List, [], ◌∷◌, ◌++◌, eqb, ltb}
+use Rattle.std.specs.Prelude.{ℕ, Bool, true, false, not, List, [], ◌∷◌, ◌++◌, eqb, ltb}
 use Rattle.model.specs.Choice.{pick, both}
-use Rattle.scanning.specs.Reading.{is_digit}
 use Rattle.words.specs.declared.Spot.{Spot}
 use Rattle.words.specs.declared.Amount.{Amount}
 use Rattle.words.specs.declared.Amount.TheVariants.{Whole, TooLarge, NotWhole}
-use Rattle.words.specs.Words.{is_blank, is_end, line_feed, return, hash, no_letter, spelled_after, too_large, not_whole, Event, word, line_end}
+use Rattle.words.specs.Words.{is_blank, is_end, line_feed, return, hash, no_letter, spelled_after, too_large, not_whole, amount_after, Event, word, line_end}
 
--- an amount as the number of specs/Words.antt that stands for it
-abbrev pub number_of : Amount → ℕ
-number_of (Whole number) = number
-number_of TooLarge = too_large
-number_of NotWhole = not_whole
-
+-- what an amount says (specs/Words.antt): a whole number, that it is too large, or that the word is none
 unfoldable pub whole_for : ℕ → Amount
 whole_for number = pick (ltb number too_large) (Whole number) TooLarge
 
--- `amount_after`, of amounts
-abbrev pub counted_after : Amount → ℕ → Amount
-counted_after (Whole number) letter = pick (is_digit letter) (whole_for (10 * number + (letter - 48))) NotWhole
-counted_after TooLarge letter = pick (is_digit letter) TooLarge NotWhole
-counted_after NotWhole letter = NotWhole
+unfoldable pub amount_for : ℕ → Amount
+amount_for number = pick (eqb number not_whole) NotWhole (whole_for number)
 
 abbrev pub begun : Spot
-begun = record { returned = false; commented = false; spelling = no_letter; amount = Whole 0 }
+begun = record { returned = false; commented = false; spelling = no_letter; amount = 0 }
 
 abbrev pub comment_begun : Spot
-comment_begun = record { returned = false; commented = true; spelling = no_letter; amount = Whole 0 }
+comment_begun = record { returned = false; commented = true; spelling = no_letter; amount = 0 }
 
 abbrev pub returned_after : Spot → Spot
 returned_after spot =
@@ -40,7 +31,7 @@ longer spot letter =
       returned = false;
       commented = false;
       spelling = spelled_after spot.spelling letter;
-      amount = counted_after spot.amount letter;
+      amount = amount_after spot.amount letter;
     }
 
 unfoldable pub grown_by : Spot → ℕ → Spot
@@ -61,7 +52,7 @@ went_by spot byte =
 
 -- what comes with the byte
 abbrev pub word_by : Spot → ℕ → List Event
-word_by spot byte = pick (ends_word spot byte) (word spot.spelling (number_of spot.amount) ∷ []) []
+word_by spot byte = pick (ends_word spot byte) (word spot.spelling spot.amount ∷ []) []
 
 abbrev pub line_by : ℕ → List Event
 line_by byte = pick (eqb byte line_feed) (line_end ∷ []) []

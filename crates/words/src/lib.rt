@@ -3,8 +3,8 @@
 #![tactic(auto)]
 
 ghost use Rattle.std.specs.Prelude.{◌≡◌};
-ghost use Rattle.words.specs.Words.{is_blank, is_end, spelled_after};
-ghost use Rattle.words.specs.Steps.{whole_for, counted_after, begun, comment_begun, grown_by, settled_by, ends_word, went_by};
+ghost use Rattle.words.specs.Words.{is_blank, is_end, spelled_after, amount_after};
+ghost use Rattle.words.specs.Steps.{whole_for, amount_for, begun, comment_begun, grown_by, settled_by, ends_word, went_by};
 
 // How a word of no letter is spelled, and one of more than seven.
 pub const NO_LETTER: u64 = 1;
@@ -14,7 +14,12 @@ const MANY_LETTERS: u64 = 9223372036854775808;
 // Words of fewer than seven letters are spelled below this, 256^7.
 const SEVEN_LETTERS: u64 = 72057594037927936;
 
-// The number that a word is, if it is a whole number and not too large.
+// The amount of a number that is too large, and of a word that is no whole number.
+pub const TOO_LARGE: u64 = 4294967296;
+
+pub const NOT_WHOLE: u64 = 4294967297;
+
+// What an amount says: the number that a word is, if it is a whole number and not too large.
 #[derive(Clone, Copy, Debug, PartialEq, Eq)]
 pub enum Amount {
     Whole(u32),
@@ -28,7 +33,7 @@ pub struct Spot {
     pub returned: bool,
     pub commented: bool,
     pub spelling: u64,
-    pub amount: Amount,
+    pub amount: u64,
 }
 
 // Before the first byte of a line.
@@ -39,7 +44,7 @@ pub fn begin() -> Spot
         returned: false,
         commented: false,
         spelling: NO_LETTER,
-        amount: Amount::Whole(0),
+        amount: 0,
     }
 }
 
@@ -51,7 +56,7 @@ fn begin_comment() -> Spot
         returned: false,
         commented: true,
         spelling: NO_LETTER,
-        amount: Amount::Whole(0),
+        amount: 0,
     }
 }
 
@@ -120,17 +125,29 @@ fn spell(spelling: u64, letter: u8) -> u64
 }
 
 // Its amount then.
-#[tactic(auto, using(scanning::proofs::ByteLaws::digit_same))]
-fn count(amount: Amount, letter: u8) -> Amount
-    ensures { result ≡ counted_after amount letter }
+#[tactic(auto, using(std::proofs::lemmas::Bool::Decides::nat_tests, scanning::proofs::ByteLaws::digit_same), unfolding(crate::specs::Words::amount_after))]
+fn count(amount: u64, letter: u8) -> u64
+    ensures { result ≡ amount_after amount letter }
 {
     if !letter.is_ascii_digit() {
-        return Amount::NotWhole;
+        return NOT_WHOLE;
     }
-    match amount {
-        Amount::Whole(number) => whole(10 * u64::from(number) + u64::from(letter - b'0')),
-        Amount::TooLarge => Amount::TooLarge,
-        Amount::NotWhole => Amount::NotWhole,
+    if TOO_LARGE <= amount {
+        return amount;
+    }
+    (10 * amount + u64::from(letter - b'0')).min(TOO_LARGE)
+}
+
+// A number above NOT_WHOLE says no more than that it is too large.
+impl From<u64> for Amount {
+    ghost from_gives = { λ number amount. amount ≡ amount_for number };
+
+    #[tactic(auto, using(std::proofs::lemmas::Bool::Decides::nat_tests), unfolding(crate::specs::Steps::amount_for))]
+    fn from(number: u64) -> Amount {
+        match number {
+            NOT_WHOLE => Amount::NotWhole,
+            _ => whole(number),
+        }
     }
 }
 
