@@ -190,6 +190,20 @@ impl Told for Claimed {
     }
 }
 
+// The same as a function, for who does without the trait: the refusal's number; 0 for pass, 255 for fails.
+pub fn code(claimed: Claimed) -> u32
+    ensures { result ≡ code_of claimed }
+{
+    claimed.code()
+}
+
+// The refusal's place (a byte of the table, or 0), or that of the first task whose claim fails.
+pub fn place(claimed: Claimed) -> usize
+    ensures { result ≡ claimed_place claimed }
+{
+    claimed.place()
+}
+
 // What `check_claims` says, in one number, for C (crates/claims_c).
 pub fn packed_claims(table: &[u8], claims: &[u32]) -> u64
     ensures { result ≡ packed table.now claims.now }

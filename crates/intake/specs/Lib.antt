@@ -1,3 +1,4 @@
 pub mod Intake
 pub mod Events
 pub mod Numbers
+pub mod Messages

@@ -26,6 +26,11 @@ pub enum Unusable {
 }
 
 impl fmt::Display for Unusable {
+    ghost use Rattle.std.specs.Prelude.{Some};
+    ghost use Rattle.intake.specs.Messages.{message_of};
+
+    ghost output = { λ why. Some (message_of why) };
+
     fn fmt<W: fmt::Write>(&self, f: &mut fmt::Formatter<W>) -> fmt::Result {
         match self {
             Unusable::ShortStore => write!(f, "the store is too short"),

@@ -210,6 +210,20 @@ impl Told for Found {
     }
 }
 
+// The same as a function, for who does without the trait: the refusal's number; 0 for schedulable, 255 for late, 254 for open.
+pub fn code(found: Found) -> u32
+    ensures { result ≡ code_of found }
+{
+    found.code()
+}
+
+// The refusal's place (a byte of the table, or 0), or that of the first task that is late or open.
+pub fn place(found: Found) -> usize
+    ensures { result ≡ found_place found }
+{
+    found.place()
+}
+
 // What `analyse_past_period` says, in one number, for C (crates/overlaps_c).
 pub fn packed_past_period(table: &[u8], answers: &mut [u32], tried: &mut [u32]) -> u64
     ensures { PackedOutcome table.now answers.old tried.old result answers.new tried.new }

@@ -61,6 +61,20 @@ impl Told for Verdict {
     }
 }
 
+// The same as a function, for who does without the trait: the refusal's number; 0 for schedulable, 255 for late.
+pub fn code(verdict: Verdict) -> u32
+    ensures { result ≡ code_of verdict }
+{
+    verdict.code()
+}
+
+// The refusal's place (a byte of the table, or 0), or the first late task's.
+pub fn place(verdict: Verdict) -> usize
+    ensures { result ≡ verdict_place verdict }
+{
+    verdict.place()
+}
+
 // Both in one number, for C: the code in the upper 32 bits, the place in the lower 32. No place of a table's reaches 65,536, since a table
 // states its length in two bytes.
 pub fn pack<T: Told>(told: T) -> u64
